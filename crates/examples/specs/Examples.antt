@@ -16,10 +16,11 @@ use Rattle.station.specs.Sent.{bits}
 use Rattle.station.specs.Outcomes.{Step, quiet, sending, drawing}
 use Rattle.station.specs.Arrival.{arriveSaid}
 
--- the addresses 10.0.0.1 and 10.0.0.2
+-- the peer's address, 10.0.0.1
 abbrev pub one : ℕ
 one = 0x0a000001
 
+-- the station's address, 10.0.0.2
 abbrev pub two : ℕ
 two = 0x0a000002
 
@@ -40,29 +41,35 @@ at state passive iss una nxt irs rcvnxt = record {
   peerport = 1024;
 }
 
+-- in CLOSED
 abbrev pub closed : Station
 closed = at Closed false 0 0 0 0 0
 
+-- in LISTEN
 abbrev pub listening : Station
 listening = at Listen true 0 0 0 0 0
 
--- SYN-SENT with an ISS and the number after it
+-- in SYN-SENT with an ISS and the number after it
 abbrev pub synSent : ℕ → ℕ → Station
 synSent iss nxt = at SynSent false iss iss nxt 0 0
 
--- the bits of SYN; SYN,ACK; ACK; RST; RST,ACK
+-- the bits of a SYN
 abbrev pub SYN : Control
 SYN = bits false false true
 
+-- of a SYN,ACK
 abbrev pub SYN·ACK : Control
 SYN·ACK = bits true false true
 
+-- of an ACK
 abbrev pub ACK : Control
 ACK = bits true false false
 
+-- of a RST
 abbrev pub RST : Control
 RST = bits false true false
 
+-- of a RST,ACK
 abbrev pub RST·ACK : Control
 RST·ACK = bits true true false
 
@@ -84,10 +91,11 @@ to control seq ack window = record {
   text = 0;
 }
 
--- "P1 LISTEN, SYN 100, fresh 300: SYN-RECEIVED, sends 300 ack 101 SYN,ACK"
+-- what P1 leads to
 abbrev pub received : Station
 received = at SynReceived true 300 300 301 100 101
 
+-- "P1 LISTEN, SYN 100, fresh 300: SYN-RECEIVED, sends 300 ack 101 SYN,ACK"
 abbrev pub P1 : Type 0
 P1 = arriveSaid listening (from SYN 100 0) 300 ≡ given (drawing received (to SYN·ACK 300 101 4096))
 
@@ -119,10 +127,11 @@ P7 = arriveSaid (synSent 400 401) (from ACK 300 101) 7 ≡ given (sending (synSe
 abbrev pub P8 : Type 0
 P8 = arriveSaid (synSent 4294967295 0) (from SYN·ACK 300 0) 7 ≡ given (sending (at Established false 4294967295 0 0 300 301) (to ACK 0 301 4096))
 
--- "P9 ESTABLISHED, RCV.NXT 101, window 4,096: RST 4196 closes; RST 4197 and RST 100 do not"
+-- "ESTABLISHED, RCV.NXT 101, window 4,096"
 abbrev pub established : Station
 established = at Established true 300 301 301 100 101
 
+-- "P9 .. RST 4196 closes; RST 4197 and RST 100 do not"
 abbrev pub P9 : Type 0
 P9 =
     (arriveSaid established (from RST 4196 0) 7 ≡ given (quiet closed))
@@ -160,6 +169,7 @@ P12 =
 abbrev pub examples : List (Type 0)
 examples = P1 ∷ P2 ∷ P3 ∷ P4 ∷ P5 ∷ P6 ∷ P7 ∷ P8 ∷ P9 ∷ P10 ∷ P11 ∷ P12 ∷ []
 
+-- every claim of a list
 abbrev pub AllHold : List (Type 0) → Type 0
 AllHold [] = Unit
 AllHold (claim ∷ claims) = claim × AllHold claims

@@ -51,25 +51,28 @@ fieldTests src dst s =
 unfoldable pub readTests : ℕ → ℕ → List ℕ → List Test
 readTests src dst s = fieldTests src dst s ++ (refuse 6 when finOrText (segmentAt src dst s) ∷ [])
 
--- what octets arriving, and a header read, are answered by
+-- what octets arriving are answered by, before 5 and 6
 unfoldable pub fieldsSaid : ℕ → ℕ → List ℕ → Said Segment
 fieldsSaid src dst s = firstOf (fieldTests src dst s) (segmentAt src dst s)
 
+-- what a header read is answered by
 unfoldable pub readSaid : ℕ → ℕ → List ℕ → Said Header
 readSaid src dst s = firstOf (readTests src dst s) (fieldsAt s)
 
--- the number and values of each answer
+-- the number and values of each answer to octets arriving
 abbrev pub saidArriving : Arriving → Said Segment
 saidArriving (arriving.Refused r) = refused (number r)
 saidArriving (arriving.Whole g) = given g
 
+-- the number and values of each answer to a header read
 abbrev pub saidReading : Reading → Said Header
 saidReading (reading.Refused r) = refused (number r)
 saidReading (reading.Fields h) = given h
 
--- the promises of `fields_with_text` and `read`
+-- the promise of `fields_with_text`
 abbrev pub FieldsSay : ℕ → ℕ → List ℕ → Arriving → Type 0
 FieldsSay src dst s r = saidArriving r ≡ fieldsSaid src dst s
 
+-- the promise of `read`
 abbrev pub ReadSays : ℕ → ℕ → List ℕ → Reading → Type 0
 ReadSays src dst s r = saidReading r ≡ readSaid src dst s

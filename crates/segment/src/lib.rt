@@ -185,7 +185,7 @@ fn control_octet(k: Control) -> u8
 
 // ---- reading
 
-// 2
+// Refusal 2.
 fn size_wrong(s: &[u8]) -> bool
     ensures { λ r. ⌜ r ≡ sizeWrong (now (s .entry)) ⌝ }
 {
@@ -199,7 +199,7 @@ fn header_words(s: &[u8]) -> usize
     (octet(s, 12) / 16) as usize
 }
 
-// 3
+// Refusal 3.
 fn header_length_wrong(s: &[u8]) -> bool
     ensures { λ r. ⌜ r ≡ headerLengthWrong (now (s .entry)) ⌝ }
 {
@@ -207,7 +207,7 @@ fn header_length_wrong(s: &[u8]) -> bool
     (words < 5) | (s.len() < words * 4)
 }
 
-// 4
+// Refusal 4.
 fn checksum_wrong(src: u32, dst: u32, s: &[u8]) -> bool
     ensures { λ r. ⌜ r ≡ checksumWrong src dst (now (s .entry)) ⌝ }
 {
@@ -239,7 +239,7 @@ fn text_length(s: &[u8]) -> u32
     (s.len() - header_words(s) * 4) as u32
 }
 
-// 6
+// Refusal 6.
 pub fn fin_or_text(g: Segment) -> bool
     ensures { λ r. ⌜ r ≡ finOrText g ⌝ }
 {

@@ -76,6 +76,7 @@ ackAtSynReceived s g =
     if eqb (segAck g) (plus (s .iss) 1) then quiet (establishedOf s (s .passive) (s .iss) (s .irs)) else
     sending s (replyReset s g)
 
+-- "later" (01, "A station's record")
 abbrev pub isLater : Order → Bool
 isLater Later = true
 isLater Equal = false
@@ -111,6 +112,7 @@ ours s g =
     eqb (g .src) (s .peer) && eqb (g .dst) (s .own)
     && eqb (g .header .source) (s .peerport) && eqb (g .header .destination) (s .ownport)
 
+-- 5, then 6, which octets arriving and a segment share
 unfoldable pub endpointTests : Station → Segment → List Test
 endpointTests s g = refuse 5 when not (ours s g) ∷ refuse 6 when finOrText g ∷ []
 

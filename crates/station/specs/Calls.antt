@@ -13,17 +13,19 @@ use Rattle.station.specs.declared.Station.{Station}
 abbrev pub badRecord : Station → Test
 badRecord s = refuse 1 when not (formed s)
 
--- "Open (with a number): from CLOSED or LISTEN to SYN-SENT; send SYN"
+-- "Open (with a number): from CLOSED or LISTEN"
 unfoldable pub mayOpen : Station → Bool
 mayOpen s = is Closed s || is Listen s
 
+-- ".. to SYN-SENT; send SYN"; the number is drawn
 unfoldable pub openStep : Station → ℕ → Step
 openStep s n = drawing (synSentOf s n) (synOf (synSentOf s n))
 
+-- open: 1, 7
 unfoldable pub openSaid : Station → ℕ → Said Step
 openSaid s n = firstOf (badRecord s ∷ refuse 7 when not (mayOpen s) ∷ []) (openStep s n)
 
--- "Listen: from CLOSED to LISTEN"
+-- "Listen: from CLOSED to LISTEN": 1, 7
 unfoldable pub listenSaid : Station → Said Step
 listenSaid s = firstOf (badRecord s ∷ refuse 7 when not (is Closed s) ∷ []) (quiet (listenOf s))
 
@@ -33,21 +35,24 @@ abortStep s =
     if is SynReceived s || is Established s then sending (closedOf s) (rstOf s (s .nxt)) else
     quiet (closedOf s)
 
+-- abort: 1, 8
 unfoldable pub abortSaid : Station → Said Step
 abortSaid s = firstOf (badRecord s ∷ refuse 8 when is Closed s ∷ []) (abortStep s)
 
--- "Resend: SYN-SENT sends its SYN, SYN-RECEIVED its SYN,ACK; the record stays"
+-- resend is for SYN-SENT and SYN-RECEIVED
 unfoldable pub mayResend : Station → Bool
 mayResend s = is SynSent s || is SynReceived s
 
+-- "Resend: SYN-SENT sends its SYN, SYN-RECEIVED its SYN,ACK; the record stays"
 unfoldable pub resendStep : Station → Step
 resendStep s =
     if is SynSent s then sending s (synOf s) else
     sending s (synAckOf s)
 
+-- resend: 1, 8
 unfoldable pub resendSaid : Station → Said Step
 resendSaid s = firstOf (badRecord s ∷ refuse 8 when not (mayResend s) ∷ []) (resendStep s)
 
--- "Power cut: any state to CLOSED, nothing sent; endpoints and window stay"
+-- "Power cut: any state to CLOSED, nothing sent; endpoints and window stay": 1
 unfoldable pub powerCutSaid : Station → Said Step
 powerCutSaid s = firstOf (badRecord s ∷ []) (quiet (closedOf s))

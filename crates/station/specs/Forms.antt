@@ -7,9 +7,9 @@ use Rattle.station.specs.declared.State.{State}
 use Rattle.station.specs.declared.State.the-variants.{Closed, Listen, SynSent, SynReceived, Established}
 use Rattle.station.specs.declared.Station.{Station}
 
--- a chain of checks, read from top to bottom
 module _ {A : Type 0} where
   infixr 1 if_then_else_
+  -- a chain of checks, read from top to bottom
   abbrev pub if_then_else_ : Bool → A → A → A
   if true then x else y = x
   if false then x else y = y
@@ -71,18 +71,22 @@ with s state passive iss una nxt irs rcvnxt = record {
   peerport = s .peerport;
 }
 
--- the record in each form
+-- the record in CLOSED
 unfoldable pub closedOf : Station → Station
 closedOf s = with s Closed false 0 0 0 0 0
 
+-- the record in LISTEN
 unfoldable pub listenOf : Station → Station
 listenOf s = with s Listen true 0 0 0 0 0
 
+-- the record in SYN-SENT, with an ISS
 unfoldable pub synSentOf : Station → ℕ → Station
 synSentOf s iss = with s SynSent false iss iss (plus iss 1) 0 0
 
+-- the record in SYN-RECEIVED, with a mark, an ISS and an IRS
 unfoldable pub receivedOf : Station → Bool → ℕ → ℕ → Station
 receivedOf s passive iss irs = with s SynReceived passive iss iss (plus iss 1) irs (plus irs 1)
 
+-- the record in ESTABLISHED, with a mark, an ISS and an IRS
 unfoldable pub establishedOf : Station → Bool → ℕ → ℕ → Station
 establishedOf s passive iss irs = with s Established passive iss (plus iss 1) (plus iss 1) irs (plus irs 1)

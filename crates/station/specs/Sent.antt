@@ -8,19 +8,23 @@ use Rattle.segment.specs.declared.Segment.{Segment}
 use Rattle.station.specs.Forms.{if_then_else_}
 use Rattle.station.specs.declared.Station.{Station}
 
--- the bits and numbers of a segment, in the RFC's words (RFC 9293, 3.10)
+-- "ACK is on" (RFC 9293, 3.10.7)
 abbrev pub hasAck : Segment → Bool
 hasAck g = g .header .control .ack
 
+-- "RST" is on
 abbrev pub hasRst : Segment → Bool
 hasRst g = g .header .control .rst
 
+-- "SYN" is on
 abbrev pub hasSyn : Segment → Bool
 hasSyn g = g .header .control .syn
 
+-- SEG.SEQ
 abbrev pub segSeq : Segment → ℕ
 segSeq g = g .header .seq
 
+-- SEG.ACK
 abbrev pub segAck : Segment → ℕ
 segAck g = g .header .ack
 

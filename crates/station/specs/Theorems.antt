@@ -26,10 +26,11 @@ pub record KeepsForms : Type 0 where
   pub event : (s : Station) (e : Event) (step : Step) → eventSaid s e ≡ given step → formed (step .next) ≡ true
   pub octets : (s : Station) (src dst : ℕ) (octets : List ℕ) (fresh : ℕ) (step : Step) → octetsSaid s src dst octets fresh ≡ given step → formed (step .next) ≡ true
 
--- "the five numbers are zero", and the other sentences of "The only forms", as facts
+-- "the five numbers are zero", as facts
 unfoldable pub Zeroed : Station → Type 0
 Zeroed s = (s .iss ≡ 0) × (s .una ≡ 0) × (s .nxt ≡ 0) × (s .irs ≡ 0) × (s .rcvnxt ≡ 0)
 
+-- "The only forms", as facts
 unfoldable pub FormAt : State → Station → Type 0
 FormAt Closed s = Zeroed s × (s .passive ≡ false)
 FormAt Listen s = Zeroed s × (s .passive ≡ true)
@@ -37,10 +38,11 @@ FormAt SynSent s = (s .una ≡ s .iss) × (s .nxt ≡ plus (s .iss) 1) × (s .ir
 FormAt SynReceived s = (s .una ≡ s .iss) × (s .nxt ≡ plus (s .iss) 1) × (s .rcvnxt ≡ plus (s .irs) 1)
 FormAt Established s = (s .una ≡ s .nxt) × (s .nxt ≡ plus (s .iss) 1) × (s .rcvnxt ≡ plus (s .irs) 1)
 
--- the table's rows 1, 5 and 6
+-- the table's row 1
 abbrev pub recordRow : Station → Row
 recordRow s = row 1 given-when ((FormAt (s .state) s × (0 < s .rcvwnd)) → ⊥)
 
+-- the table's rows 5 and 6
 unfoldable pub endpointRows : Station → Segment → List Row
 endpointRows s g =
     row 5 given-when (((g .src ≡ s .peer) × (g .dst ≡ s .own) × (g .header .source ≡ s .peerport) × (g .header .destination ≡ s .ownport)) → ⊥)
