@@ -46,7 +46,7 @@ is-state t s =
 two : {A B C D : Type 0} → A ↔ C → B ↔ D → (A × B) ↔ (C × D)
 two p q = (λ h. (p .0 (h .0), q .0 (h .1)), λ h. (p .1 (h .0), q .1 (h .1)))
 
-then : {A B C : Type 0} → A ↔ B → B ↔ C → A ↔ C
+pub then : {A B C : Type 0} → A ↔ B → B ↔ C → A ↔ C
 then p q = (λ a. q .0 (p .0 a), λ c. p .1 (q .1 c))
 
 zeroed-as : (s : Station) → (zeroed s ≡ true) ↔ Zeroed s
@@ -80,7 +80,7 @@ module _ (s : Station) where
   form-as SynReceived = then (both _ _ _ _ opening-as synchronized-as) (λ h. (h .0 .0, h .0 .1, h .1), λ h. ((h .0, h .1), h .2))
   form-as Established = then (both _ _ _ _ acknowledged-as synchronized-as) (λ h. (h .0 .0, h .0 .1, h .1), λ h. ((h .0, h .1), h .2))
 
-record-agrees : (s : Station) → (not (formed s) ≡ true) ↔ recordRow s .cause
+pub record-agrees : (s : Station) → (not (formed s) ≡ true) ↔ recordRow s .cause
 unfolding formed
 record-agrees s = negated _ _ (both _ _ _ _ (form-as s (s .state)) (below 0 (s .rcvwnd)))
 

@@ -64,7 +64,8 @@ fn form_at(s: Station) -> bool
     }
 }
 
-pub(crate) fn formed(s: Station) -> bool
+// Whether a record is of the forms.
+pub fn formed(s: Station) -> bool
     ensures { λ r. ⌜ r ≡ Forms·formed s ⌝ }
 {
     form_at(s) & (0 < s.rcvwnd)

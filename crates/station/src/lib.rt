@@ -2,7 +2,7 @@
 // record", "Calls and power", "Arrival, check by check").
 mod arrival;
 mod calls;
-mod forms;
+pub mod forms;
 mod sending;
 
 ghost use mathlib.Core.Path.{_≡_};

@@ -1,0 +1,4 @@
+pub mod Answers
+pub mod Locals
+pub mod Beside
+pub mod Walk

@@ -1,0 +1,153 @@
+-- Runs that are computed: the hypotheses of demand 3 can be met, and its spacing is needed (01, "Errors that look reasonable").
+use Prim.Native.Nat.{ℕ}
+use mathlib.Core.Path.{_≡_}
+use mathlib.Core.Bool.{false}
+use mathlib.Core.List.{List, [], _∷_, _++_}
+use lib.ListN.{replicate}
+use Rattle.station.specs.declared.State.{State}
+use Rattle.station.specs.declared.State.the-variants as State
+use Rattle.station.specs.declared.Station.{Station}
+use Rattle.model.specs.Links.{blank}
+use Rattle.model.specs.declared.Side.the-variants.{A, B}
+use Rattle.model.specs.declared.Link.{Link}
+use Rattle.model.specs.declared.Model.{Model}
+use Rattle.model.specs.declared.Event.{Event}
+use Rattle.model.specs.declared.Event.the-variants.{Open, Listen, PowerCut, Deliver, Copy}
+use Rattle.opening.specs.History.{Start, playedAll, eventsOf, draws}
+use Rattle.opening.specs.Statement.{History, nine}
+
+-- a closed station with a window, its own endpoint and its peer's
+abbrev pub closedWith : ℕ → ℕ → ℕ → ℕ → ℕ → Station
+closedWith window own ownport peer peerport = record {
+  state = State.Closed;
+  passive = false;
+  iss = 0;
+  una = 0;
+  nxt = 0;
+  irs = 0;
+  rcvnxt = 0;
+  rcvwnd = window;
+  own = own;
+  ownport = ownport;
+  peer = peer;
+  peerport = peerport;
+}
+
+-- a link with no segment
+abbrev pub empty : Link
+empty = record { slots = replicate 32 blank; count = 0 }
+
+-- the two of them: A in the barn, B in the office
+abbrev pub barn : ℕ → Model
+barn window = record {
+  a = closedWith window 0x0a000001 1024 0x0a000002 2000;
+  b = closedWith window 0x0a000002 2000 0x0a000001 1024;
+  toa = empty;
+  tob = empty;
+}
+
+-- what a station ends with
+pub record End : Type 0 where
+  pub state : State
+  pub iss : ℕ
+  pub irs : ℕ
+
+-- the end of a record
+abbrev pub endOf : Station → End
+endOf s = record { state = s .state; iss = s .iss; irs = s .irs }
+
+-- established on an ISS, with an IRS
+abbrev pub established : ℕ → ℕ → End
+established iss irs = record { state = State.Established; iss = iss; irs = irs }
+
+-- lists played from the barn's start: what A and B draw, and what they end with
+pub record Shows (window : ℕ) (lists : List (List Event)) (drawsa drawsb : List ℕ) (a b : End) : Type 0 where
+  pub drawna : draws A (barn window) (eventsOf (barn window) lists) ≡ drawsa
+  pub drawnb : draws B (barn window) (eventsOf (barn window) lists) ≡ drawsb
+  pub enda : endOf (playedAll (barn window) lists .a) ≡ a
+  pub endb : endOf (playedAll (barn window) lists .b) ≡ b
+
+-- a plain opening: A listens, B opens
+abbrev pub plain : List Event
+plain = Listen A ∷ Open B 100 ∷ Deliver A 0 200000 ∷ Deliver B 0 0 ∷ Deliver A 0 0 ∷ []
+
+-- two opens that cross: each SYN, each SYN,ACK, each ACK
+abbrev pub crossing : List Event
+crossing =
+    Open A 100000 ∷ Open B 300000
+    ∷ Deliver A 0 0 ∷ Deliver B 0 0
+    ∷ Deliver A 0 0 ∷ Deliver B 0 0
+    ∷ Deliver A 0 0 ∷ Deliver B 0 0
+    ∷ []
+
+-- a power cut at B
+abbrev pub cut : List Event
+cut = PowerCut B ∷ []
+
+-- the nine steps with two new numbers
+abbrev pub recovery : List Event
+recovery = nine A 0 0 400000 600000 1 2 3 4 5
+
+-- the plain opening ends with both established
+abbrev pub PlainShows : Type 0
+PlainShows = Shows 4096 (plain ∷ []) (200000 ∷ []) (100 ∷ []) (established 200000 100) (established 100 200000)
+
+-- the same of the crossing
+abbrev pub CrossingShows : Type 0
+CrossingShows = Shows 4096 (crossing ∷ []) (100000 ∷ []) (300000 ∷ []) (established 100000 300000) (established 300000 100000)
+
+-- the same of the recovery
+abbrev pub RecoveryShows : Type 0
+RecoveryShows =
+    Shows 4096 (plain ∷ cut ∷ recovery ∷ []) (200000 ∷ 600000 ∷ []) (100 ∷ 400000 ∷ []) (established 600000 400000) (established 400000 600000)
+
+-- the hypotheses of demand 3 can be met
+pub record ReachableExists : Type 0 where
+  pub plainly : History (barn 4096) (plain ∷ []) × PlainShows
+  pub crossed : History (barn 4096) (crossing ∷ []) × CrossingShows
+  pub recovered : History (barn 4096) (plain ∷ cut ∷ recovery ∷ []) × RecoveryShows
+
+-- "Numbers only distinct, not spaced": A draws 380 and 400, B draws 100 and 50
+abbrev pub near : List Event
+near =
+    Open A 380 ∷ PowerCut A ∷ Open A 400
+    ∷ Listen B ∷ Copy B 1 ∷ Deliver B 1 100 ∷ Deliver B 1 0
+    ∷ PowerCut B ∷ Open B 50
+    ∷ Copy A 2 ∷ Deliver A 2 0 ∷ Deliver A 1 0
+    ∷ Deliver B 0 0 ∷ Deliver A 1 0 ∷ Deliver B 1 0
+    ∷ []
+
+-- both are established, and B holds 380 where A's number is 400
+abbrev pub NearShows : Type 0
+NearShows = Shows 4096 (near ∷ []) (380 ∷ 400 ∷ []) (100 ∷ 50 ∷ []) (established 400 50) (established 50 380)
+
+-- the nine steps with B's new number 65,535 past its old one, 100, at a window of 65,535
+abbrev pub tooNear : List Event
+tooNear = nine A 0 0 65635 400000 1 2 3 4 5
+
+-- A takes the SYN for one in its window and closes, and so B closes: the bound is sharp for the nine steps
+abbrev pub TooNearShows : Type 0
+TooNearShows =
+    Shows 65535 (plain ∷ cut ∷ tooNear ∷ []) (200000 ∷ []) (100 ∷ 65635 ∷ [])
+    (record { state = State.Listen; iss = 0; irs = 0 }) (record { state = State.Closed; iss = 0; irs = 0 })
+
+-- what goes wrong where the numbers lie nearer
+pub record SpacingIsNeeded : Type 0 where
+  pub distinct : NearShows
+  pub sharp : TooNearShows
+
+-- the story of the request: the barn box A draws 100,000 again after its power cut, and takes the old opening's late SYN,ACK for its own
+abbrev pub story : List Event
+story =
+    Open A 100000 ∷ Copy B 0
+    ∷ Listen B ∷ Deliver B 0 200000
+    ∷ PowerCut B ∷ Listen B ∷ Deliver B 0 300000
+    ∷ Deliver A 1 0
+    ∷ PowerCut A ∷ Open A 100000
+    ∷ Deliver A 0 0
+    ∷ Deliver B 0 0
+    ∷ []
+
+-- with that one number repeated both are established, and A holds 200,000 where B's number is 300,000
+abbrev pub Incident : Type 0
+Incident = Shows 4096 (story ∷ []) (100000 ∷ 100000 ∷ []) (200000 ∷ 300000 ∷ []) (established 100000 200000) (established 300000 100000)
