@@ -1,6 +1,6 @@
 -- The runs, computed. Assumes nothing.
 use Prim.Native.Nat.{ℕ, _<_, _≤_, _^_}
-use mathlib.Core.Path.{_≡_, refl}
+use mathlib.Core.Path.{_≡_, refl, sym, ap, _∙_}
 use mathlib.Core.List.{List, [], _∷_}
 use native.Mathlib.Omega.{arith}
 use Rattle.seq.specs.Seq.{order}
@@ -17,11 +17,11 @@ use Rattle.model.specs.declared.Side.{Side}
 use Rattle.model.specs.declared.Side.the-variants.{A, B}
 use Rattle.model.specs.declared.Event.{Event}
 use Rattle.opening.specs.History.{Start, playedAll, eventsOf, drawnAt, draws, Apart, Spaced}
-use Rattle.opening.specs.Statement.{History}
-use Rattle.opening.specs.Runs.{barn, End, Shows, PlainShows, CrossingShows, RecoveryShows, ReachableExists, NearShows, TooNearShows, SpacingIsNeeded, Incident}
+use Rattle.opening.specs.Statement.{History, Agree}
+use Rattle.opening.specs.Runs.{barn, End, Shows, PlainShows, CrossingShows, RecoveryShows, ReachableExists, NearShows, TooNearShows, SpacingIsNeeded, StoryShows, Incident, established}
 
 -- every run, by computation
-computed : PlainShows × CrossingShows × RecoveryShows × NearShows × TooNearShows × Incident
+computed : PlainShows × CrossingShows × RecoveryShows × NearShows × TooNearShows × StoryShows
 unfolding order zeroed opening acknowledged synchronized formAt formed with closedOf listenOf synSentOf receivedOf establishedOf segLen bits sends synOf synAckOf ackOf rstOf replyReset mayOpen openStep openSaid listenSaid abortStep abortSaid mayResend resendStep resendSaid powerCutSaid atClosed atListen wrongAck synAtSynSent atSynSent inWindow outside resetTo ackAtSynReceived ackAtEstablished atSynchronized arrivalAt ours endpointTests arriveSaid eventSaid held blank full hasPlace atPlace pushed removed stationOf toward withStation withToward mirrored sound posted moved delivered copied lost applied stepSaid counted run begun playSaid playedAll eventsOf drawnAt draws
 computed = (
   record { drawna = refl; drawnb = refl; enda = refl; endb = refl },
@@ -32,11 +32,25 @@ computed = (
   record { drawna = refl; drawnb = refl; enda = refl; endb = refl },
 )
 
+-- both established, and A holding another number than B's: no agreement
+disagree : (lists : List (List Event)) (da db : List ℕ) (i r j k : ℕ) → Shows 4096 lists da db (established i r) (established j k)
+    → ((r ≡ j) × (k ≡ i) → ⊥) → Agree (barn 4096) lists → ⊥
+disagree lists da db i r j k s apart a =
+    let both = a .both (ap (λ (e : End). e .state) (s .enda)) (ap (λ (e : End). e .state) (s .endb)) in
+    apart (
+      sym (ap (λ (e : End). e .irs) (s .enda)) ∙ both .0 ∙ ap (λ (e : End). e .iss) (s .endb),
+      sym (ap (λ (e : End). e .irs) (s .endb)) ∙ both .1 ∙ ap (λ (e : End). e .iss) (s .enda),
+    )
+
 pub incident : Incident
-incident = computed .5
+incident = record { ends = computed .5; disagrees = disagree _ _ _ _ _ _ _ (computed .5) (λ e. omega arith) }
 
 pub spacing-is-needed : SpacingIsNeeded
-spacing-is-needed = record { distinct = computed .3; sharp = computed .4 }
+spacing-is-needed = record {
+  distinct = computed .3;
+  disagrees = disagree _ _ _ _ _ _ _ (computed .3) (λ e. omega arith);
+  sharp = computed .4;
+}
 
 -- ---- histories
 

@@ -14,7 +14,7 @@ use Rattle.model.specs.declared.Model.{Model}
 use Rattle.model.specs.declared.Event.{Event}
 use Rattle.model.specs.declared.Event.the-variants.{Open, Listen, PowerCut, Deliver, Copy}
 use Rattle.opening.specs.History.{Start, playedAll, eventsOf, draws}
-use Rattle.opening.specs.Statement.{History, nine}
+use Rattle.opening.specs.Statement.{History, Agree, nine}
 
 -- a closed station with a window, its own endpoint and its peer's
 abbrev pub closedWith : ℕ → ℕ → ℕ → ℕ → ℕ → Station
@@ -134,6 +134,7 @@ TooNearShows =
 -- what goes wrong where the numbers lie nearer
 pub record SpacingIsNeeded : Type 0 where
   pub distinct : NearShows
+  pub disagrees : Agree (barn 4096) (near ∷ []) → ⊥
   pub sharp : TooNearShows
 
 -- the story of the request: the barn box A draws 100,000 again after its power cut, and takes the old opening's late SYN,ACK for its own
@@ -149,5 +150,10 @@ story =
     ∷ []
 
 -- with that one number repeated both are established, and A holds 200,000 where B's number is 300,000
-abbrev pub Incident : Type 0
-Incident = Shows 4096 (story ∷ []) (100000 ∷ 100000 ∷ []) (200000 ∷ 300000 ∷ []) (established 100000 200000) (established 300000 100000)
+abbrev pub StoryShows : Type 0
+StoryShows = Shows 4096 (story ∷ []) (100000 ∷ 100000 ∷ []) (200000 ∷ 300000 ∷ []) (established 100000 200000) (established 300000 100000)
+
+-- the incident: where the story ends, what `EstablishedAgree` concludes is false
+pub record Incident : Type 0 where
+  pub ends : StoryShows
+  pub disagrees : Agree (barn 4096) (story ∷ []) → ⊥
