@@ -125,26 +125,27 @@ fn wide(x: u8) -> u32
 }
 
 // The octet at a place, 0 past the end.
-fn octet(s: &[u8], at: usize) -> u32
+pub fn octet(s: &[u8], at: usize) -> u32
     ensures { λ r. ⌜ (r ≡ getD (now (s .entry)) at 0) × (r < 256) ⌝ }
 {
     if at < s.len() { wide(s[at]) } else { 0 }
 }
 
-// The 16-bit number at a place.
-fn get16(s: &[u8], at: usize) -> u16
-    requires { ⌜ at < 2 ^ 16 ⌝ }
+// The 16-bit number at a place, high octet first. A place among the first 65,536 is enough for every
+// header.
+pub fn get16(s: &[u8], at: u16) -> u16
     ensures { λ r. ⌜ r ≡ at16 (now (s .entry)) at ⌝ }
 {
-    (octet(s, at) * 256 + octet(s, at + 1)) as u16
+    let from = at as usize;
+    (octet(s, from) * 256 + octet(s, from + 1)) as u16
 }
 
-// The 32-bit number at a place.
-fn get32(s: &[u8], at: usize) -> u32
-    requires { ⌜ at < 2 ^ 15 ⌝ }
+// The 32-bit number at a place, high octet first.
+pub fn get32(s: &[u8], at: u8) -> u32
     ensures { λ r. ⌜ r ≡ at32 (now (s .entry)) at ⌝ }
 {
-    get16(s, at) as u32 * 65536 + get16(s, at + 2) as u32
+    let from = at as u16;
+    get16(s, from) as u32 * 65536 + get16(s, from + 2) as u32
 }
 
 // ---- control bits

@@ -1,0 +1,4 @@
+pub mod Layout
+pub mod Program
+pub mod Promises
+pub mod Theorems
