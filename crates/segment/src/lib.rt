@@ -150,7 +150,8 @@ pub fn get32(s: &[u8], at: u8) -> u32
 
 // ---- control bits
 
-fn control_at(x: u32) -> Control
+// The control bits in an octet.
+pub fn control_at(x: u32) -> Control
     ensures { λ r. ⌜ r ≡ controlAt x ⌝ }
 {
     Control {
@@ -171,7 +172,8 @@ fn weigh(on: bool, w: u8) -> u8
     if on { w } else { 0 }
 }
 
-fn control_octet(k: Control) -> u8
+// The octet of control bits.
+pub fn control_octet(k: Control) -> u8
     ensures { λ r. ⌜ r ≡ controlOctet k ⌝ }
 {
     weigh(k.cwr, 128)

@@ -1,0 +1,5 @@
+pub mod Filled
+pub mod Listed
+pub mod Room
+pub mod Reported
+pub mod Crossing

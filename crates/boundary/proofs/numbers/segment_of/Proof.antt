@@ -1,0 +1,16 @@
+use Rattle.boundary.specs.Numbers.{segmentOf}
+use borrow.Author.Needs.{needs}
+use Rattle.boundary.proofs.numbers.segment_of.Statement.{statement}
+use Rattle.boundary.proofs.numbers.segment_of.Tie as tie
+
+header-of-requires : tie.Need-header-of-requires
+header-of-requires c κs = search needs
+
+returns : tie.Need-returns
+unfolding segmentOf
+returns c =
+    simp
+    (← c .header-of .ensures)
+
+pub segment-of-spec : {M : Type 1} → statement M
+segment-of-spec = tie.close (tie.spec header-of-requires returns)

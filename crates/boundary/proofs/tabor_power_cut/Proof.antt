@@ -1,0 +1,45 @@
+use borrow.Author.Needs.{needs}
+use Rattle.boundary.proofs.tabor_power_cut.Statement.{statement}
+use Rattle.boundary.proofs.tabor_power_cut.Tie as tie
+
+known-requires : tie.Need-known-requires
+known-requires c κs = search needs
+
+refused-requires : tie.Need-refused-requires
+refused-requires c κs = search needs
+
+returns : tie.Need-returns
+returns c =
+    simp (c .before .if1 .taken, ← c .before .before .known .ensures)
+    (c .refused .ensures)
+
+station-of-requires : tie.Need-station-of-requires
+station-of-requires c κs = search needs
+
+power-cut-requires : tie.Need-power-cut-requires
+power-cut-requires c κs = search needs
+
+told-requires : tie.Need-told-requires
+told-requires c κs = search needs
+
+returns-2 : tie.Need-returns-2
+returns-2 c =
+    simp (
+      ← c .before .power-cut .ensures,
+      ← c .before .before .station-of .ensures,
+      c .before .before .before .if1 .left,
+      ← c .before .before .before .before .known .ensures,
+    )
+    (c .told .ensures)
+
+pub tabor-power-cut-spec : {M : Type 1} → statement M
+tabor-power-cut-spec =
+    tie.close
+    (tie.spec
+    known-requires
+    refused-requires
+    returns
+    station-of-requires
+    power-cut-requires
+    told-requires
+    returns-2)

@@ -1,0 +1,90 @@
+-- A station's calls and arrivals in numbers (01, "Calls and power", "Arrival, check by check"; docs/DECISIONS.md, "The boundary in numbers").
+use Prim.Native.Nat.{ℕ}
+use mathlib.Core.Path.{_≡_}
+use mathlib.Core.Bool.{not}
+use mathlib.Core.List.{List, [], _∷_, _++_}
+use lib.ListN.{length, drop}
+use lib.Dec.{ltb}
+use Rattle.segment.specs.declared.Segment.{Segment as segment·Segment}
+use Rattle.segment.specs.Refusals.{Said, refused, given}
+use Rattle.segment.specs.Write.{made}
+use Rattle.station.specs.Forms.{if_then_else_}
+use Rattle.station.specs.Outcomes.{Step}
+use Rattle.station.specs.Calls.{openSaid, listenSaid, abortSaid, resendSaid, powerCutSaid}
+use Rattle.station.specs.Arrival.{arriveSaid, octetsSaid}
+use Rattle.boundary.specs.Numbers.{bitOf, known, stationOf, recordOf, segmentOf, segmentNumbers, noSegment}
+use Rattle.boundary.specs.declared.Record.{Record}
+use Rattle.boundary.specs.declared.Segment.{Segment}
+use Rattle.boundary.specs.declared.Told.{Told}
+
+-- the segment sent, or zero
+abbrev pub sentNumbers : List segment·Segment → Segment
+sentNumbers [] = noSegment
+sentNumbers (g ∷ gs) = segmentNumbers g
+
+-- what is told of a step: after a refusal its number alone, and the record that came in
+abbrev pub toldOf : Record → Said Step → Told
+toldOf c (refused n) = record { next = c; segment = noSegment; refusal = n; sent = 0; drawn = 0 }
+toldOf c (given step) = record {
+  next = recordOf (step .next);
+  segment = sentNumbers (step .sent);
+  refusal = 0;
+  sent = length (step .sent);
+  drawn = bitOf (step .drawn);
+}
+
+-- "record not of the forms above" (01's table, 1), where a state or mark number names none
+abbrev pub ifKnown : Record → Said Step → Said Step
+ifKnown c x = if not (known c) then refused 1 else x
+
+-- an open with a number
+abbrev pub openTold : Record → ℕ → Told
+openTold c n = toldOf c (ifKnown c (openSaid (stationOf c) n))
+
+-- a listen
+abbrev pub listenTold : Record → Told
+listenTold c = toldOf c (ifKnown c (listenSaid (stationOf c)))
+
+-- an abort
+abbrev pub abortTold : Record → Told
+abortTold c = toldOf c (ifKnown c (abortSaid (stationOf c)))
+
+-- a resend
+abbrev pub resendTold : Record → Told
+resendTold c = toldOf c (ifKnown c (resendSaid (stationOf c)))
+
+-- a power cut
+abbrev pub powerCutTold : Record → Told
+powerCutTold c = toldOf c (ifKnown c (powerCutSaid (stationOf c)))
+
+-- a segment that arrives
+abbrev pub arriveTold : Record → Segment → ℕ → Told
+arriveTold c g fresh = toldOf c (ifKnown c (arriveSaid (stationOf c) (segmentOf g) fresh))
+
+-- "output below 20 octets" (01's table, 10), after what the octets are refused for
+abbrev pub ifRoom : List ℕ → Said Step → Said Step
+ifRoom out (refused n) = refused n
+ifRoom out (given step) = if ltb (length out) 20 then refused 10 else given step
+
+-- octets that arrive, with an output for the answer
+abbrev pub octetsAnswered : Record → ℕ → ℕ → List ℕ → ℕ → List ℕ → Said Step
+octetsAnswered c src dst octets fresh out = ifRoom out (ifKnown c (octetsSaid (stationOf c) src dst octets fresh))
+
+-- "A write fills the first 20 octets and no others": what is sent, at the output's start
+abbrev pub written : List segment·Segment → List ℕ → List ℕ
+written [] out = out
+written (g ∷ gs) out = made (g .src) (g .dst) (g .header) ++ drop 20 out
+
+-- the output at exit: after a refusal as it was (the request's demand 1)
+abbrev pub answerLeaves : Said Step → List ℕ → List ℕ
+answerLeaves (refused n) out = out
+answerLeaves (given step) out = written (step .sent) out
+
+-- the promise where an answer is written, too: what is told, and the output at exit
+pub record Answers (c : Record) (x : Said Step) (before after : List ℕ) (r : Told) : Type 0 where
+  pub told : r ≡ toldOf c x
+  pub output : after ≡ answerLeaves x before
+
+-- the promise of octets that arrive
+abbrev pub Arrives : Record → ℕ → ℕ → List ℕ → ℕ → List ℕ → List ℕ → Told → Type 0
+Arrives c src dst octets fresh before after r = Answers c (octetsAnswered c src dst octets fresh before) before after r
