@@ -1,13 +1,14 @@
 -- Refusals are given exactly when the table says. Assumes nothing.
 use Prim.Native.Nat.{ℕ, _≤_, _<_}
-use mathlib.Core.Path.{_≡_, refl, ap}
+use mathlib.Core.Path.{_≡_, refl, sym, ap, _∙_}
 use mathlib.Core.Bool.{Bool, true, false, not, _&&_}
 use mathlib.Core.List.{List, [], _∷_}
 use mathlib.Core.Logic.{_⊎_, _↔_, inl, inr, ⊎-elim}
 use native.Mathlib.Omega.{arith}
 use lib.Dec.{ltb, leb}
 use borrow.Author.Tests.{ltb-false, leb-false, le-ltb, lt-leb, not-true, not-false}
-use Rattle.segment.specs.Refusals.{Said, refused, given, Row, ByRows}
+use Rattle.segment.specs.declared.Refusal.{Refusal}
+use Rattle.segment.specs.Refusals.{number, Said, refused, given, Row, ByRows}
 use Rattle.segment.proofs.Tests.{false-true, below, same, negated, both}
 use Rattle.station.specs.Forms.{if_then_else_, formed}
 use Rattle.station.specs.Outcomes.{Step}
@@ -18,8 +19,8 @@ use Rattle.station.specs.declared.Event.{Event as Call}
 use Rattle.station.specs.declared.Event.the-variants as Call
 use Rattle.station.proofs.Exact.{then as through, record-agrees, refusals-exact as Station·refusals-exact}
 use Rattle.model.specs.Links.{full, hasPlace, atPlace}
-use Rattle.model.specs.Step.{stationOf, toward, mirrored, sound, moved, delivered, copied, lost, applied, stepSaid}
-use Rattle.model.specs.Play.{playSaid}
+use Rattle.model.specs.Step.{stationOf, toward, mirrored, sound, Moved, moved, delivered, copied, lost, applied, stepSaid, modelAfter, saidAnswer, replyOf}
+use Rattle.model.specs.Play.{Run, playSaid, modelPlayed, saidReport, totalsOf}
 use Rattle.model.specs.Theorems.{Mirrored, modelRow, behind, modelRows, RefusalsExact}
 use Rattle.model.specs.declared.Side.{Side}
 use Rattle.model.specs.declared.Link.{Link}
@@ -140,11 +141,22 @@ event-exact m (Copy x k) n =
     (λ s. row-first _ 9 n _ _ _ (no-place (toward x m) k) (λ e. row-first _ 11 n _ _ _ (is-full (toward x m)) (λ e′. row-none _ n)))
 event-exact m (Lose x k) n = row-1 m _ n _ (λ s. row-first _ 9 n _ _ _ (no-place (toward x m) k) (λ e. row-none _ n))
 
+-- ---- nothing is changed
+
+-- an answer that is a refusal was given for one
+after-refusal : (m : Model) (y : Said Moved) (why : Refusal) → refused (number why) ≡ replyOf y → modelAfter m y ≡ m
+after-refusal m (refused n) why e = refl
+after-refusal m (given x) why e = absurd (given-refused _ (number why) (sym e))
+
+played-refusal : (m : Model) (y : Said Run) (why : Refusal) → refused (number why) ≡ totalsOf y → modelPlayed m y ≡ m
+played-refusal m (refused n) why e = refl
+played-refusal m (given p) why e = absurd (given-refused _ (number why) (sym e))
+
 pub refusals-exact : RefusalsExact
 unfolding playSaid
 refusals-exact = record {
   event = event-exact;
-  unchanged = λ m x n e. rw e;
+  unchanged = λ m e r why t a. t .model ∙ after-refusal m (stepSaid m e) why (sym (ap saidAnswer a) ∙ t .answer);
   whole = λ m n es k. row-1 m _ k _ (λ s. row-first _ 12 k _ _ _ (below 4096 n) (λ e. row-none _ k));
-  unplayed = λ m x n e. rw e;
+  unplayed = λ m n es r why t a. t .model ∙ played-refusal m (playSaid m n es) why (sym (ap saidReport a) ∙ t .report);
 }

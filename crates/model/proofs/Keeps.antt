@@ -26,7 +26,7 @@ use Rattle.model.specs.declared.Link.{Link}
 use Rattle.model.specs.declared.Model.{Model}
 use Rattle.model.specs.declared.Event.{Event}
 use Rattle.model.specs.declared.Event.the-variants.{Open, Listen, Abort, Resend, PowerCut, Deliver, Copy, Lose}
-use Rattle.model.proofs.Laws.{is-sound, sound-is, within, room}
+use Rattle.model.proofs.Laws.{is-sound, sound-is, within, room, Gives, gives, refuses, same-station}
 
 abbrev Ok : Model → Type 0
 Ok m = sound m ≡ true
@@ -87,33 +87,22 @@ posted-ok x m (g ∷ gs) drawn s =
 
 -- ---- each event
 
--- what is given by every way of an event is ok
-abbrev Gives : Said Moved → Type 0
-Gives y = (z : Moved) → y ≡ given z → Ok (z .model)
+-- every way of an event leaves a model that is ok
+abbrev Kept : Moved → Type 0
+Kept z = Ok (z .model)
 
-gives : (x : Moved) → Ok (x .model) → Gives (given x)
-gives x s z e = let p : x ≡ z = cc in subst (λ (w : Moved). Ok (w .model)) p s
-
-refuses : (n : ℕ) → Gives (refused n)
-refuses n z e = absurd (let w : _≡_ {A = ℕ} 0 1 = cc in omega arith)
-
-said-ok : (x : Side) (rest : Model) (y : Said Step) → ((step : Step) → y ≡ given step → Ok (withStation x rest (step .next))) → Gives (moved x rest y)
+said-ok : (x : Side) (rest : Model) (y : Said Step) → ((step : Step) → y ≡ given step → Ok (withStation x rest (step .next))) → Gives Kept (moved x rest y)
 unfolding moved
-said-ok x rest (refused n) h = refuses n
-said-ok x rest (given step) h = gives _ (posted-ok x _ (step .sent) (step .drawn) (h step refl))
+said-ok x rest (refused n) h = refuses Kept n
+said-ok x rest (given step) h = gives Kept _ (posted-ok x _ (step .sent) (step .drawn) (h step refl))
 
-moved-ok : (x : Side) (m rest : Model) (call : Call) → Ok rest → stationOf x rest ≡ stationOf x m → Gives (moved x rest (eventSaid (stationOf x m) call))
+moved-ok : (x : Side) (m rest : Model) (call : Call) → Ok rest → stationOf x rest ≡ stationOf x m → Gives Kept (moved x rest (eventSaid (stationOf x m) call))
 moved-ok x m rest call s same =
     said-ok x rest _
     (λ step e. station-ok x rest (step .next) s (Station·keeps-forms .event (stationOf x m) call step e)
     (rw same (event-has (Ends (stationOf x m)) (stationOf x m) call step (λ f. ends (stationOf x m)) e)))
 
-same-station : (x : Side) (m : Model) (l : Link) → stationOf x (withToward x m l) ≡ stationOf x m
-unfolding stationOf withToward
-same-station A m l = refl
-same-station B m l = refl
-
-applied-ok : (m : Model) (e : Event) → Ok m → Gives (applied m e)
+applied-ok : (m : Model) (e : Event) → Ok m → Gives Kept (applied m e)
 unfolding applied delivered copied lost
 applied-ok m (Open x n) s = moved-ok x m m (Call.Open n) s refl
 applied-ok m (Listen x) s = moved-ok x m m Call.Listen s refl
@@ -121,21 +110,21 @@ applied-ok m (Abort x) s = moved-ok x m m Call.Abort s refl
 applied-ok m (Resend x) s = moved-ok x m m Call.Resend s refl
 applied-ok m (PowerCut x) s = moved-ok x m m Call.PowerCut s refl
 applied-ok m (Deliver x n fresh) s =
-    by-case Gives (not (hasPlace (toward x m) n)) (λ e. refuses 9)
-    (λ e. moved-ok x m _ (Call.Arrive (atPlace (toward x m) n) fresh) (removed-ok x m n s) (same-station x m _))
+    by-case (Gives Kept) (not (hasPlace (toward x m) n)) (λ e. refuses Kept 9)
+    (λ e. moved-ok x m _ (Call.Arrive (atPlace (toward x m) n) fresh) (removed-ok x m n s) (same-station x x m _))
 applied-ok m (Copy x n) s =
-    by-case Gives (not (hasPlace (toward x m) n)) (λ e. refuses 9)
-    (λ e. by-case Gives (full (toward x m)) (λ f. refuses 11) (λ f. gives _ (pushed-ok x m (atPlace (toward x m) n) s f)))
+    by-case (Gives Kept) (not (hasPlace (toward x m) n)) (λ e. refuses Kept 9)
+    (λ e. by-case (Gives Kept) (full (toward x m)) (λ f. refuses Kept 11) (λ f. gives Kept _ (pushed-ok x m (atPlace (toward x m) n) s f)))
 applied-ok m (Lose x n) s =
-    by-case Gives (not (hasPlace (toward x m) n)) (λ e. refuses 9) (λ e. gives _ (removed-ok x m n s))
+    by-case (Gives Kept) (not (hasPlace (toward x m) n)) (λ e. refuses Kept 9) (λ e. gives Kept _ (removed-ok x m n s))
 
-event-ok : (m : Model) (e : Event) → Gives (stepSaid m e)
+event-ok : (m : Model) (e : Event) → Gives Kept (stepSaid m e)
 unfolding stepSaid
-event-ok m e = by-case Gives (not (sound m)) (λ f. refuses 1) (λ f. applied-ok m e (not-false (sound m) f))
+event-ok m e = by-case (Gives Kept) (not (sound m)) (λ f. refuses Kept 1) (λ f. applied-ok m e (not-false (sound m) f))
 
 -- ---- a list
 
-after-ok : (m : Model) (y : Said Moved) → Ok m → Gives y → Ok (modelAfter m y)
+after-ok : (m : Model) (y : Said Moved) → Ok m → Gives Kept y → Ok (modelAfter m y)
 after-ok m (refused n) s h = s
 after-ok m (given x) s h = h x refl
 

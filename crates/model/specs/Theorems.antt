@@ -6,18 +6,21 @@ use mathlib.Core.List.{List, [], _∷_, _++_}
 use mathlib.Core.Logic.{_⊎_, _↔_}
 use lib.ListN.{length, getD, take, drop}
 use Rattle.segment.specs.declared.Segment.{Segment}
-use Rattle.segment.specs.Refusals.{Said, refused, given, Row, row_given-when_, ByRows}
-use Rattle.station.specs.Theorems.{recordRow, endpointRows, eventRows}
+use Rattle.segment.specs.declared.Refusal.{Refusal}
+use Rattle.segment.specs.Refusals.{refused, given, Row, row_given-when_, ByRows}
+use Rattle.station.specs.Theorems.{recordRow, endpointRows, eventRows, Draws as Call·Draws}
 use Rattle.station.specs.declared.Event.{Event as Call}
 use Rattle.station.specs.declared.Event.the-variants as Call
 use Rattle.model.specs.Links.{held, blank, full, atPlace, pushed, removed}
-use Rattle.model.specs.Step.{stationOf, toward, sound, Moved, stepSaid, modelAfter, Steps}
-use Rattle.model.specs.Play.{Run, playSaid, modelPlayed, Plays}
+use Rattle.model.specs.Step.{stationOf, toward, sound, Moved, stepSaid, Steps}
+use Rattle.model.specs.Play.{Run, playSaid, Plays}
 use Rattle.model.specs.declared.Side.{Side}
 use Rattle.model.specs.declared.Link.{Link}
 use Rattle.model.specs.declared.Model.{Model}
 use Rattle.model.specs.declared.Event.{Event}
 use Rattle.model.specs.declared.Event.the-variants.{Open, Listen, Abort, Resend, PowerCut, Deliver, Copy, Lose}
+use Rattle.model.specs.declared.Answer.the-variants as Answer
+use Rattle.model.specs.declared.Report.the-variants as Report
 use Rattle.model.specs.declared.Stepped.{Stepped}
 use Rattle.model.specs.declared.Played.{Played}
 
@@ -59,10 +62,38 @@ modelRows m (Lose x n) = modelRow m ∷ placeRow x m n ∷ []
 -- each refusal is given exactly when the table says, "None is given elsewhere or for another cause", and then the model is unchanged
 pub record RefusalsExact : Type 0 where
   pub event : (m : Model) (e : Event) (n : ℕ) → (stepSaid m e ≡ refused n) ↔ ByRows (modelRows m e) n
-  pub unchanged : (m : Model) (x : Said Moved) (n : ℕ) → x ≡ refused n → modelAfter m x ≡ m
+  -- "A refused event changes nothing": the model that comes with its answer is the one before it
+  pub unchanged : (m : Model) (e : Event) (r : Stepped) (why : Refusal) → Steps m e r → r .answer ≡ Answer.Refused why → r .model ≡ m
   -- "a whole list 1, 12": "nothing is played"
   pub whole : (m : Model) (n : ℕ) (es : List Event) (k : ℕ) → (playSaid m n es ≡ refused k) ↔ ByRows (modelRow m ∷ row 12 given-when (4096 < n) ∷ []) k
-  pub unplayed : (m : Model) (x : Said Run) (n : ℕ) → x ≡ refused n → modelPlayed m x ≡ m
+  pub unplayed : (m : Model) (n : ℕ) (es : List Event) (r : Played) (why : Refusal) → Plays m n es r → r .report ≡ Report.Refused why → r .model ≡ m
+
+-- "A number is drawn only by an open that is taken and by a LISTEN that takes a SYN": by a call or a delivery where its station draws
+unfoldable pub Draws : Model → Event → Type 0
+Draws m (Open x n) = Call·Draws (stationOf x m) (Call.Open n)
+Draws m (Listen x) = ⊥
+Draws m (Abort x) = ⊥
+Draws m (Resend x) = ⊥
+Draws m (PowerCut x) = ⊥
+Draws m (Deliver x n fresh) = Call·Draws (stationOf x m) (Call.Arrive (atPlace (toward x m) n) fresh)
+Draws m (Copy x n) = ⊥
+Draws m (Lose x n) = ⊥
+
+-- the number that an event offers is the ISS that its station has in a model
+unfoldable pub Holds : Model → Event → Type 0
+Holds m (Open x n) = n ≡ stationOf x m .iss
+Holds m (Listen x) = ⊥
+Holds m (Abort x) = ⊥
+Holds m (Resend x) = ⊥
+Holds m (PowerCut x) = ⊥
+Holds m (Deliver x n fresh) = fresh ≡ stationOf x m .iss
+Holds m (Copy x n) = ⊥
+Holds m (Lose x n) = ⊥
+
+-- a number is drawn exactly there, "other numbers offered do not count", and then it is the station's ISS
+pub record DrawsExactly : Type 0 where
+  pub event : (m : Model) (e : Event) (x : Moved) → stepSaid m e ≡ given x → (x .drawn ≡ true) ↔ Draws m e
+  pub iss : (m : Model) (e : Event) (x : Moved) → stepSaid m e ≡ given x → x .drawn ≡ true → Holds (x .model) e
 
 -- the promises leave one outcome (01, "How far a contract must go")
 pub record OneOutcome : Type 0 where

@@ -6,7 +6,7 @@ mod stepping;
 ghost use lib.ListN.{take};
 ghost use Rattle.model.specs.Step.{Steps};
 ghost use Rattle.model.specs.Play.{Plays};
-ghost use Rattle.model.specs.Theorems.{RefusalsExact, OneOutcome, KeepsForms, LinksMean};
+ghost use Rattle.model.specs.Theorems.{RefusalsExact, DrawsExactly, OneOutcome, KeepsForms, LinksMean};
 use segment::Refusal;
 use segment::Segment;
 use station::Sent;
@@ -112,6 +112,11 @@ pub fn play(m: Model, events: [Event; 4096], n: usize) -> Played
 // Each refusal is given exactly when 01's table says, and then the model is unchanged.
 pub fn refusals_exact()
     ensures { λ r. ⌜ RefusalsExact ⌝ }
+{}
+
+// A number is drawn exactly where its station draws it, and is then its ISS.
+pub fn draws_exactly()
+    ensures { λ r. ⌜ DrawsExactly ⌝ }
 {}
 
 // The contracts leave one outcome.

@@ -131,4 +131,7 @@ draws-exactly = record {
   octets = λ s src dst octets fresh step g.
       let h = segmentAt src dst octets in
       rw (← past s (fieldTests src dst octets ++ endpointTests s h) (arrivalAt (s .state) s h fresh) step g .1) (arrival-draws s h fresh (s .state));
+  octetsIss = λ s src dst octets fresh step g.
+      let h = segmentAt src dst octets in
+      rw (← past s (fieldTests src dst octets ++ endpointTests s h) (arrivalAt (s .state) s h fresh) step g .1) (arrival-iss s h fresh (s .state));
 }

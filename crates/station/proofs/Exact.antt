@@ -127,5 +127,6 @@ refusals-exact = record {
   event = λ s e n. rw event-first (exact (badRecord s ∷ eventTests s e) (eventRows s e) (events-agree s e) (eventStep s e) n);
   octets = λ s src dst octets fresh n.
       exact _ _ (octets-agree s src dst octets) (arrivalAt (s .state) s (segmentAt src dst octets) fresh) n;
-  unchanged = λ s x n e. rw e;
+  unchanged = λ s e n r. rw r;
+  untouched = λ s src dst octets fresh n r. rw r;
 }

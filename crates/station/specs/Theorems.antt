@@ -64,7 +64,10 @@ pub record RefusalsExact : Type 0 where
   pub octets : (s : Station) (src dst : ℕ) (octets : List ℕ) (fresh n : ℕ)
       → (octetsSaid s src dst octets fresh ≡ refused n)
       ↔ ByRows (recordRow s ∷ fieldRows src dst octets ++ endpointRows s (segmentAt src dst octets)) n
-  pub unchanged : (s : Station) (x : Said Step) (n : ℕ) → x ≡ refused n → recordAfter s x ≡ s
+  -- "and then the record .. [is] unchanged" (the request's demand 1): after an event, and after octets arriving
+  pub unchanged : (s : Station) (e : Event) (n : ℕ) → eventSaid s e ≡ refused n → recordAfter s (eventSaid s e) ≡ s
+  pub untouched : (s : Station) (src dst : ℕ) (octets : List ℕ) (fresh n : ℕ)
+      → octetsSaid s src dst octets fresh ≡ refused n → recordAfter s (octetsSaid s src dst octets fresh) ≡ s
 
 -- the promises leave one outcome: one answer says what is defined
 pub record OneOutcome : Type 0 where
@@ -94,3 +97,5 @@ pub record DrawsExactly : Type 0 where
   pub iss : (s : Station) (e : Event) (step : Step) → eventSaid s e ≡ given step → step .drawn ≡ true → Offers e (step .next .iss)
   pub octets : (s : Station) (src dst : ℕ) (octets : List ℕ) (fresh : ℕ) (step : Step) → octetsSaid s src dst octets fresh ≡ given step
       → (step .drawn ≡ true) ↔ Draws s (Event.Arrive (segmentAt src dst octets) fresh)
+  pub octetsIss : (s : Station) (src dst : ℕ) (octets : List ℕ) (fresh : ℕ) (step : Step) → octetsSaid s src dst octets fresh ≡ given step
+      → step .drawn ≡ true → fresh ≡ step .next .iss
