@@ -140,9 +140,9 @@ foreign src dst source destination control = record {
 -- a segment of this connection, with a length of text
 abbrev pub withText : Control → ℕ → Segment
 withText control text = record {
-  header = record { source = 40007; destination = 5001; seq = 90001; ack = 7001; control = control; window = 333; urgent = 44 };
-  src = 0xc6336404;
-  dst = 0xc0000209;
+  header = record { source = 4007; destination = 5001; seq = 90001; ack = 7001; control = control; window = 333; urgent = 44 };
+  src = 0x0a020004;
+  dst = 0x0a010009;
   text = text;
 }
 
@@ -153,17 +153,17 @@ FIN·ACK = bits false false false true false false false true
 -- 5: "addresses or ports not of this connection"; 6: "FIN on, or text present"; 1, then 5, then 6
 abbrev pub refusedArrivals : List (Type 0)
 refusedArrivals =
-    (arrives (foreign 0xc6336405 0xc0000209 40007 5001 ACK) on received marked gives refused 5)
-    ∷ (arrives (foreign 0xc6336404 0xc0000208 40007 5001 ACK) on received marked gives refused 5)
-    ∷ (arrives (foreign 0xc6336404 0xc0000209 40006 5001 ACK) on received marked gives refused 5)
-    ∷ (arrives (foreign 0xc6336404 0xc0000209 40007 5002 ACK) on received marked gives refused 5)
-    ∷ (arrives (foreign 0xc0000209 0xc6336404 5001 40007 ACK) on received marked gives refused 5)
-    ∷ (arrives (foreign 0xc6336405 0xc0000209 40007 5001 FIN·ACK) on received marked gives refused 5)
-    ∷ (arrives (foreign 0xc6336404 0xc0000209 40007 5001 FIN·ACK) on received marked gives refused 6)
+    (arrives (foreign 0x0a020005 0x0a010009 4007 5001 ACK) on received marked gives refused 5)
+    ∷ (arrives (foreign 0x0a020004 0x0a010008 4007 5001 ACK) on received marked gives refused 5)
+    ∷ (arrives (foreign 0x0a020004 0x0a010009 4006 5001 ACK) on received marked gives refused 5)
+    ∷ (arrives (foreign 0x0a020004 0x0a010009 4007 5002 ACK) on received marked gives refused 5)
+    ∷ (arrives (foreign 0x0a010009 0x0a020004 5001 4007 ACK) on received marked gives refused 5)
+    ∷ (arrives (foreign 0x0a020005 0x0a010009 4007 5001 FIN·ACK) on received marked gives refused 5)
+    ∷ (arrives (foreign 0x0a020004 0x0a010009 4007 5001 FIN·ACK) on received marked gives refused 6)
     ∷ (arrives (withText ACK 1) on received marked gives refused 6)
     ∷ (arrives (withText RST 1) on closed gives refused 6)
     ∷ (arrives (withText ACK 0) on received marked gives step (established marked) [] false)
-    ∷ (arrives (foreign 0xc6336405 0xc0000209 40007 5001 FIN·ACK) on at Closed marked 0 0 0 0 0 gives refused 1)
+    ∷ (arrives (foreign 0x0a020005 0x0a010009 4007 5001 FIN·ACK) on at Closed marked 0 0 0 0 0 gives refused 1)
     ∷ []
 
 -- arrival in CLOSED, LISTEN and SYN-SENT, and what is refused

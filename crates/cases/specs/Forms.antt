@@ -63,7 +63,7 @@ notEstablished =
 -- a record in CLOSED with a window
 abbrev pub windowOf : ℕ → Station
 windowOf window =
-    recordAt (record { address = 0xc0000209; port = 5001; peer = 0xc6336404; peerport = 40007; window = window }) Closed unmarked 0 0 0 0 0
+    recordAt (record { address = 0x0a010009; port = 5001; peer = 0x0a020004; peerport = 4007; window = window }) Closed unmarked 0 0 0 0 0
 
 -- "RCV.WND (1 to 65,535)"
 abbrev pub windows : List (Type 0)

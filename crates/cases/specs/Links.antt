@@ -1,5 +1,5 @@
--- A case for each event on two stations and their links (01, "Two stations and their links"): A at 192.0.2.9 port 5001, B at 198.51.100.4
--- port 40007; the refusals 1, 5, 6, 9, 11, 12 (01's table).
+-- A case for each event on two stations and their links (01, "Two stations and their links"): A at 10.1.0.9 port 5001, B at 10.2.0.4
+-- port 4007; the refusals 1, 5, 6, 9, 11, 12 (01's table).
 use Prim.Native.Nat.{ℕ, _-_}
 use mathlib.Core.Path.{_≡_}
 use mathlib.Core.Bool.{Bool, true, false}
@@ -24,7 +24,7 @@ use Rattle.cases.specs.Station.{here, at, marked, unmarked, closed, list
 
 -- B's endpoints, with a window of 2,000
 abbrev pub there : Ends
-there = record { address = 0xc6336404; port = 40007; peer = 0xc0000209; peerport = 5001; window = 2000 }
+there = record { address = 0x0a020004; port = 4007; peer = 0x0a010009; peerport = 5001; window = 2000 }
 
 -- B's record: state, mark, ISS, SND.UNA, SND.NXT, IRS, RCV.NXT
 abbrev pub atB : State → Bool → ℕ → ℕ → ℕ → ℕ → ℕ → Station
@@ -120,9 +120,9 @@ deliveries =
 -- a segment on the link towards B that is foreign to it
 abbrev pub foreign : Segment
 foreign = record {
-  header = record { source = 5002; destination = 40007; seq = 1; ack = 2; control = bits false false false true false false false true; window = 3; urgent = 0 };
-  src = 0xc0000209;
-  dst = 0xc6336404;
+  header = record { source = 5002; destination = 4007; seq = 1; ack = 2; control = bits false false false true false false false true; window = 3; urgent = 0 };
+  src = 0x0a010009;
+  dst = 0x0a020004;
   text = 9;
 }
 
@@ -181,10 +181,10 @@ faulty =
     ∷ (Event.Copy B 9 upon model closed (atB Closed marked 0 0 0 0 0) [] [] gives refused 1)
     ∷ (Event.Copy B 9 upon record { a = closed; b = closedB; toa = over; tob = link [] } gives refused 1)
     ∷ (Event.Copy B 9 upon record { a = closed; b = closedB; toa = link []; tob = over } gives refused 1)
-    ∷ (Event.Copy B 9 upon model closed (elsewhere 0xc6336405 40007 0xc0000209 5001) [] [] gives refused 1)
-    ∷ (Event.Copy B 9 upon model closed (elsewhere 0xc6336404 40008 0xc0000209 5001) [] [] gives refused 1)
-    ∷ (Event.Copy B 9 upon model closed (elsewhere 0xc6336404 40007 0xc0000208 5001) [] [] gives refused 1)
-    ∷ (Event.Copy B 9 upon model closed (elsewhere 0xc6336404 40007 0xc0000209 5000) [] [] gives refused 1)
+    ∷ (Event.Copy B 9 upon model closed (elsewhere 0x0a020005 4007 0x0a010009 5001) [] [] gives refused 1)
+    ∷ (Event.Copy B 9 upon model closed (elsewhere 0x0a020004 4008 0x0a010009 5001) [] [] gives refused 1)
+    ∷ (Event.Copy B 9 upon model closed (elsewhere 0x0a020004 4007 0x0a010008 5001) [] [] gives refused 1)
+    ∷ (Event.Copy B 9 upon model closed (elsewhere 0x0a020004 4007 0x0a010009 5000) [] [] gives refused 1)
     ∷ (Event.Copy B 9 upon model closed closedB [] [] gives refused 9)
     ∷ []
 

@@ -57,11 +57,12 @@ second =
     ∷ 0x07 ∷ 0xd0 ∷ 0x04 ∷ 0x00 ∷ 0x00 ∷ 0x02 ∷ 0x00 ∷ 0x00 ∷ 0x00 ∷ 0x00 ∷ 0x03 ∷ 0x85 ∷ 0x50 ∷ 0x12 ∷ 0x10 ∷ 0x00 ∷ 0x7c ∷ 0x79 ∷ 0x00 ∷ 0x00
     ∷ []
 
--- "the k-th number drawn is 65,536 times k"; a RST leads back to LISTEN
+-- "the k-th number drawn is 65,536 times k"; a RST leads back to LISTEN; "IP checksum and fragments are not examined": the RST comes in
+-- a fragment, and with a checksum of zero; what stands behind a version other than 4 is not answered
 abbrev pub drawings : List (Type 0)
 drawings =
-    (output (plain ++ syn) ≡ answer)
-    ∷ (output (plain ++ syn ++ plain ++ rst ++ plain ++ later) ≡ answer ++ second)
+    (output (plain ++ syn ++ header 0x45 0x00 0x28 0x20 0x01 6 0x00 0x00 ++ rst ++ plain ++ later ++ header 0x65 0x00 0x28 0x40 0x00 6 0x06 0xce ++ rst ++ plain ++ syn)
+    ≡ answer ++ second)
     ∷ []
 
 -- "It stops at a version other than 4, an IP header length below 5 words, a total length below the header's or above 1,500, or missing
@@ -74,20 +75,19 @@ stops =
     ∷ (output (header 0x45 0x00 0x13 0x40 0x00 6 0x26 0xe3 ++ plain ++ syn) ≡ [])
     ∷ (output (header 0x45 0x05 0xdd 0x40 0x00 17 0x21 0x0e ++ replicate 1481 0 ++ plain ++ syn) ≡ [])
     ∷ (output (plain ++ cutSyn) ≡ [])
-    ∷ (output (plain ++ syn ++ header 0x65 0x00 0x28 0x40 0x00 6 0x06 0xce) ≡ answer)
     ∷ []
 
--- "A refused datagram, or a protocol other than 6, is skipped; IP checksum and fragments are not examined"; a total length of the header's
--- and one of 1,500 are taken, and options of the IP header are skipped
+-- "A refused datagram, or a protocol other than 6, is skipped", also one of the header's length alone or of 1,500 octets; options of the IP
+-- header are skipped
 abbrev pub skips : List (Type 0)
 skips =
-    (output (plain ++ damaged ++ plain ++ syn) ≡ answer)
-    ∷ (output (header 0x45 0x00 0x28 0x40 0x00 17 0x26 0xc3 ++ syn ++ plain ++ syn) ≡ answer)
-    ∷ (output (header 0x45 0x00 0x14 0x40 0x00 6 0x26 0xe2 ++ plain ++ syn) ≡ answer)
-    ∷ (output (header 0x45 0x05 0xdc 0x40 0x00 17 0x21 0x0f ++ replicate 1480 0 ++ plain ++ syn) ≡ answer)
-    ∷ (output (header 0x45 0x00 0x28 0x40 0x00 6 0x00 0x00 ++ syn) ≡ answer)
-    ∷ (output (header 0x45 0x00 0x28 0x20 0x01 6 0x46 0xcd ++ syn) ≡ answer)
-    ∷ (output (header 0x46 0x00 0x2c 0x40 0x00 6 0x1e 0xc6 ++ (0x07 ∷ 0x04 ∷ 0x00 ∷ 0x00 ∷ []) ++ syn) ≡ answer)
+    (output (
+    plain ++ damaged
+    ++ header 0x45 0x00 0x28 0x40 0x00 17 0x26 0xc3 ++ syn
+    ++ header 0x45 0x00 0x14 0x40 0x00 6 0x26 0xe2
+    ++ header 0x45 0x05 0xdc 0x40 0x00 17 0x21 0x0f ++ replicate 1480 0
+    ++ header 0x46 0x00 0x2c 0x40 0x00 6 0x1e 0xc6 ++ (0x07 ∷ 0x04 ∷ 0x00 ∷ 0x00 ∷ []) ++ syn)
+    ≡ answer)
     ∷ []
 
 -- the program

@@ -1,5 +1,5 @@
--- The station of the cases (01, "A station's record"), with numbers that no example of 01 has: 192.0.2.9 port 5001, peer 198.51.100.4 port
--- 40007, window 1,000; ISS 7,000, IRS 90,000.
+-- The station of the cases (01, "A station's record"), with numbers that no example of 01 has: 10.1.0.9 port 5001, peer 10.2.0.4 port
+-- 4007, window 1,000; ISS 7,000, IRS 90,000.
 use Prim.Native.Nat.{ℕ}
 use mathlib.Core.Path.{_≡_}
 use mathlib.Core.Bool.{Bool, true, false}
@@ -18,7 +18,7 @@ use Rattle.examples.specs.Spelled.{Ends, recordAt, sentFrom}
 
 -- its endpoints and window
 abbrev pub here : Ends
-here = record { address = 0xc0000209; port = 5001; peer = 0xc6336404; peerport = 40007; window = 1000 }
+here = record { address = 0x0a010009; port = 5001; peer = 0x0a020004; peerport = 4007; window = 1000 }
 
 -- a record with these: state, mark, ISS, SND.UNA, SND.NXT, IRS, RCV.NXT
 abbrev pub at : State → Bool → ℕ → ℕ → ℕ → ℕ → ℕ → Station
@@ -55,9 +55,9 @@ established mark = at Established mark 7000 7001 7001 90000 90001
 -- a segment from the peer, whose window is 333 and whose urgent pointer is 44: bits, sequence, acknowledgment
 abbrev pub heard : Control → ℕ → ℕ → Segment
 heard control seq ack = record {
-  header = record { source = 40007; destination = 5001; seq = seq; ack = ack; control = control; window = 333; urgent = 44 };
-  src = 0xc6336404;
-  dst = 0xc0000209;
+  header = record { source = 4007; destination = 5001; seq = seq; ack = ack; control = control; window = 333; urgent = 44 };
+  src = 0x0a020004;
+  dst = 0x0a010009;
   text = 0;
 }
 
