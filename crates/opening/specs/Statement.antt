@@ -47,9 +47,9 @@ pub record Ready (m : Model) (lists : List (List Event)) (x : Side) (n k : ℕ) 
   pub closed : stationOf (peerOf x) (playedAll m lists) .state ≡ Closed
   -- "and a place free on each link" of 32
   pub room : (y : Side) → length (held (toward y (playedAll m lists))) < 32
-  -- "two new numbers, provided these keep the spacing". (Establishing needs that of the closed end's number only; that of the other
-  -- keeps the histories spaced.)
+  -- "two new numbers, provided these keep the spacing": the closed end's
   pub spacedn : Spaced (draws (peerOf x) m (eventsOf m lists) ++ (n ∷ []))
+  -- "these keep the spacing": the established end's too. (Establishing does not need it; the history that goes on does.)
   pub spacedk : Spaced (draws x m (eventsOf m lists) ++ (k ∷ []))
 
 -- "A established and B closed: B opens; its SYN is delivered; A's ACK is delivered; B's RST is delivered and A is closed; A listens;
