@@ -14,10 +14,12 @@ use Rattle.model.specs.declared.Side.the-variants.{A, B}
 use Rattle.model.specs.declared.Link.{Link}
 use Rattle.model.specs.declared.Model.{Model}
 use Rattle.model.specs.declared.Event.{Event}
-use Rattle.opening.specs.History.{Start, playedAll, eventsOf, draws, Recorded}
-use Rattle.opening.specs.Statement.{History, Agree, EstablishedAgree}
-use Rattle.opening.proofs.Numbers.{spacing, spaced-by, spaced-turned, rank, Newest, newest-only}
+use Rattle.opening.specs.History.{Start, playedAll, eventsOf, draws, Recorded, spacing}
+use Rattle.opening.specs.Statement.{HistoryBy, Agree, EstablishedAgree, WindowIsEnough}
+use Rattle.opening.proofs.Numbers.{spaced-turned, rank, Newest, newest-only}
+use Rattle.opening.proofs.Forms.{window-positive}
 use Rattle.opening.proofs.Logs.{Log, Held, fresh, Logs, fresh-ok}
+use Rattle.opening.proofs.Sound.{parts}
 use Rattle.opening.proofs.Moves.{LinkOk, Inv, seen-by}
 use Rattle.opening.proofs.Runs.{all-played, logsAfter, was-drawn, was-recorded, after-upheld}
 
@@ -30,11 +32,11 @@ empty-ok : (l : Link) → l .count ≡ 0 → length (l .slots) ≡ 32 → LinkOk
 unfolding held
 empty-ok l e size = record { sized = record { size = size; few = omega arith }; segments = rw e tt }
 
-start-inv : (m : Model) → Start m → Inv spacing no-logs A m
+start-inv : (ω : ℕ) (m : Model) → Start m → ((x : Side) → stationOf x m .rcvwnd ≤ ω) → Inv ω no-logs A m
 unfolding toward
-start-inv m h = record {
-  mine = record { window = omega (arith, h .windows A); state = rw (h .closed A) tt; link = empty-ok (m .tob) (h .emptyb) (h .slotsb) };
-  theirs = record { window = omega (arith, h .windows B); state = rw (h .closed B) tt; link = empty-ok (m .toa) (h .emptya) (h .slotsa) };
+start-inv ω m h small = record {
+  mine = record { window = small A; state = rw (h .closed A) tt; link = empty-ok (m .tob) (h .emptyb) (h .slotsb) };
+  theirs = record { window = small B; state = rw (h .closed B) tt; link = empty-ok (m .toa) (h .emptya) (h .slotsa) };
   logs = fresh-ok;
 }
 
@@ -60,27 +62,32 @@ agreed {l} {m} i r j k g h h′ = (e, g .theirs .once j k i (h′ .1) (subst (λ
     e : r ≡ j
     e = go (decLe (rank (m .draws) j) (rank (m .draws) r))
 
-module _ (m : Model) (lists : List (List Event)) (h : History m lists) where
+abbrev pub ends : Model → List (List Event) → Side → Log
+ends m lists = logsAfter no-logs m (eventsOf m lists)
+
+-- the windows are at most ω, the numbers at least γ apart
+module _ (ω γ : ℕ) (hω : ω ≤ γ) (m : Model) (lists : List (List Event)) (h : HistoryBy γ m lists)
+    (small : (x : Side) → stationOf x m .rcvwnd ≤ ω) where
   abbrev es : List Event
   es = eventsOf m lists
 
-  abbrev ends : Side → Log
-  ends = logsAfter no-logs m es
+  hγ : 1 ≤ γ
+  hγ = omega (arith, small A, window-positive (stationOf A m) (parts m (h .start .sound) .forms A))
 
-  pub end-inv : (x : Side) → Inv spacing ends x (playedAll m lists)
+  pub end-inv : (x : Side) → Inv ω (ends m lists) x (playedAll m lists)
   end-inv x =
       rw all-played
-      (seen-by spacing ends A x _
-      (after-upheld spacing (omega arith) es m no-logs (start-inv m (h .start))
-      (λ (y : Side). spaced-turned spacing (draws y m es) (spaced-by (draws y m es) (h .spaced y)))))
+      (seen-by ω (ends m lists) A x _
+      (after-upheld ω γ hγ hω es m no-logs (start-inv ω m (h .start) small)
+      (λ (y : Side). spaced-turned γ (draws y m es) (h .spaced y))))
 
-  drew : (x : Side) (n : ℕ) → List·Memᴰ n (ends x .draws) → List·Memᴰ n (draws x m (eventsOf m lists))
+  drew : (x : Side) (n : ℕ) → List·Memᴰ n (ends m lists x .draws) → List·Memᴰ n (draws x m (eventsOf m lists))
   drew x n k = since-start (was-drawn x es m no-logs k)
 
-  recorded : (x : Side) (i r : ℕ) → Held (ends x) i r → Recorded x m (eventsOf m lists) i r
+  recorded : (x : Side) (i r : ℕ) → Held (ends m lists x) i r → Recorded x m (eventsOf m lists) i r
   recorded x i r k = since-start (was-recorded x es m no-logs i r k)
 
-  pub one : (x : Side) → stationOf x (playedAll m lists) .state ≡ Established
+  one : (x : Side) → stationOf x (playedAll m lists) .state ≡ Established
       → List·Memᴰ (stationOf x (playedAll m lists) .irs) (draws (peerOf x) m (eventsOf m lists))
       × Recorded (peerOf x) m (eventsOf m lists) (stationOf x (playedAll m lists) .irs) (stationOf x (playedAll m lists) .iss)
   one x e =
@@ -97,5 +104,15 @@ module _ (m : Model) (lists : List (List Event)) (h : History m lists) where
         agreed _ _ _ _ (b .logs) (rw ea at (b .mine .state)) (rw eb at (b .theirs .state));
   }
 
+-- ---- agreement
+
+pub window-is-enough : WindowIsEnough
+window-is-enough = record { agree = λ γ m lists h. agree γ γ (omega arith) m lists (h .history) (λ x. omega (arith, h .windows x)) }
+
+-- 65,536 is more than any window
 pub established-agree : EstablishedAgree
-established-agree = record { agree = agree }
+established-agree = record {
+  agree = λ m lists h.
+      window-is-enough .agree spacing m lists
+      (record { history = h; windows = λ x. omega (arith, h .start .windows x) });
+}

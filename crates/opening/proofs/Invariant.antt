@@ -11,7 +11,8 @@ use Rattle.station.specs.Outcomes.{Step}
 use Rattle.station.specs.declared.State.{State}
 use Rattle.station.specs.declared.State.the-variants.{Closed, Listen, SynSent, SynReceived, Established}
 use Rattle.station.specs.declared.Station.{Station}
-use Rattle.opening.proofs.Numbers.{Each, each-map, onto, Newest}
+use Rattle.opening.specs.History.{All}
+use Rattle.opening.proofs.Numbers.{each-map, onto, Newest}
 use Rattle.opening.proofs.Logs.{Pair, Log, Drew, Held, plusPair, Logs, again-ok}
 
 -- ---- stations
@@ -83,10 +84,10 @@ numbers o = if o .drawn then o .next .iss ∷ [] else []
 pub record Upheld (l m : Log) (o : Step) : Type 0 where
   pub logs : Logs (grown (numbers o) (o .next) l) m
   pub state : StationOk (o .next) (grown (numbers o) (o .next) l) m
-  pub reply : Each (SegmentOk (grown (numbers o) (o .next) l)) (o .sent)
+  pub reply : All (SegmentOk (grown (numbers o) (o .next) l)) (o .sent)
 
 -- a step to what the logs allow as they are
-pub rest : {l m : Log} (s : Station) (gs : List Segment) → Logs l m → StationOk s l m → Each (SegmentOk l) gs
+pub rest : {l m : Log} (s : Station) (gs : List Segment) → Logs l m → StationOk s l m → All (SegmentOk l) gs
     → Upheld l m (record { next = s; sent = gs; drawn = false })
 rest {l} {m} s gs logs h k = let t = go (s .state) h in record { logs = t .0; state = t .1; reply = t .2 }
   where
@@ -97,7 +98,7 @@ rest {l} {m} s gs logs h k = let t = go (s .state) h in record { logs = t .0; st
     more = record { drew = λ _ h. h; held = λ _ _ h. List·Memᴰ·tail h }
 
     go : (t : State) → StateOk t (s .iss) (s .irs) l m
-        → Logs (after t) m × StateOk t (s .iss) (s .irs) (after t) m × Each (SegmentOk (after t)) gs
+        → Logs (after t) m × StateOk t (s .iss) (s .irs) (after t) m × All (SegmentOk (after t)) gs
     go Closed h = (logs, tt, k)
     go Listen h = (logs, tt, k)
     go SynSent h = (logs, h, k)

@@ -5,7 +5,8 @@ use mathlib.Core.Logic.{_⊎_, inl, inr}
 use mathlib.Core.List.{List, [], _∷_, List·Memᴰ, List·Memᴰ·head, List·Memᴰ·tail, List·Memᴰ·cases-cons, List·Memᴰ·not-nil, Memᴰ·cast}
 use native.Mathlib.Omega.{arith}
 use native.Mathlib.Decide.{decLe}
-use Rattle.opening.proofs.Numbers.{SpacedBy, rank, Newest, rank-newest, rank-kept}
+use Rattle.opening.specs.History.{SpacedBy}
+use Rattle.opening.proofs.Numbers.{rank, Newest, rank-newest, rank-kept}
 
 abbrev pub Pair : Type 0
 Pair = ℕ × ℕ

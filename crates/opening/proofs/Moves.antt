@@ -1,4 +1,4 @@
--- Every event of the model upholds the invariant. Assumes a spacing that is above both windows.
+-- Every event of the model upholds the invariant. Assumes windows of at most ω and a spacing that is no less.
 use Prim.Native.Nat.{ℕ, _<_, _≤_}
 use mathlib.Core.Path.{_≡_, refl, ap}
 use mathlib.Core.Bool.{false, not}
@@ -20,9 +20,9 @@ use Rattle.model.specs.declared.Link.{Link}
 use Rattle.model.specs.declared.Model.{Model}
 use Rattle.model.specs.declared.Event.{Event}
 use Rattle.model.specs.declared.Event.the-variants as Event
-use Rattle.opening.specs.History.{next, sideOf, sameSide, drew}
+use Rattle.opening.specs.History.{next, sideOf, sameSide, drew, All, SpacedBy}
 use Rattle.station.proofs.Keeps.{by-case}
-use Rattle.opening.proofs.Numbers.{Each, each-append, each-map, SpacedBy, onto}
+use Rattle.opening.proofs.Numbers.{each-append, each-map, onto}
 use Rattle.opening.proofs.Logs.{Log, Logs, flipped}
 use Rattle.opening.proofs.Invariant.{StationOk, SegmentOk, More, segment-more, station-more, noted, grown, numbers, Upheld, rest}
 use Rattle.opening.proofs.Steps.{Came, event-upheld}
@@ -42,7 +42,7 @@ more d s l = record { drew = λ i h. onto-more d h; held = λ i r h. Memᴰ·app
 -- a link by its sender's log
 pub record LinkOk (l : Log) (k : Link) : Type 0 where
   pub sized : Sized k
-  pub segments : Each (SegmentOk l) (held k)
+  pub segments : All (SegmentOk l) (held k)
 
 link-more : {l l′ : Log} (k : Link) → More l l′ → LinkOk l k → LinkOk l′ k
 link-more k g h = record { sized = h .sized; segments = each-map _ _ (segment-more g) (held k) (h .segments) }
@@ -56,7 +56,7 @@ pushed-ok l k g room h ok =
       segments = rw (held-pushed k (h .sized) g fits) (each-append (SegmentOk l) (held k) (g ∷ []) (h .segments) (ok, tt));
     }
 
-posts-ok : (l : Log) (k : Link) (gs : List Segment) → LinkOk l k → Each (SegmentOk l) gs → LinkOk l (posts k gs)
+posts-ok : (l : Log) (k : Link) (gs : List Segment) → LinkOk l k → All (SegmentOk l) gs → LinkOk l (posts k gs)
 posts-ok l k [] h ok = h
 posts-ok l k (g ∷ gs) h ok = by-case (LinkOk l) (full k) (λ _. h) (λ room. pushed-ok l k g room h (ok .0))
 
@@ -68,10 +68,10 @@ logged L x m v y =
     let s = stationOf y (modelAfter m v) in
     grown (if sameSide y x then (if drew v then s .iss ∷ [] else []) else []) s (L y)
 
-module _ (γ : ℕ) where
+module _ (ω : ℕ) where
   -- a station and the link of what it sends
   pub record Half (s : Station) (out : Link) (l m : Log) : Type 0 where
-    pub window : s .rcvwnd < γ
+    pub window : s .rcvwnd ≤ ω
     pub state : StationOk s l m
     pub link : LinkOk l out
 
@@ -85,7 +85,7 @@ module _ (γ : ℕ) where
   turned h = record { mine = h .theirs; theirs = h .mine; logs = flipped (h .logs) }
 
   -- a step of the first, by its log as it is then
-  stepped : {s t : Station} {out inn : Link} {l m : Log} (o : Step) → Both s out t inn l m → Upheld l m o → o .next .rcvwnd < γ
+  stepped : {s t : Station} {out inn : Link} {l m : Log} (o : Step) → Both s out t inn l m → Upheld l m o → o .next .rcvwnd ≤ ω
       → Both (o .next) (posts out (o .sent)) t inn (grown (numbers o) (o .next) l) m
   stepped {s} {t} {out} {inn} {l} {m} o h u w =
       let l′ = grown (numbers o) (o .next) l in
@@ -117,7 +117,7 @@ module _ (γ : ℕ) where
   seen-by L B A m h = turned h
   seen-by L B B m h = h
 
-  module _ (hγ : 1 ≤ γ) (L : Side → Log) where
+  module _ (γ : ℕ) (hγ : 1 ≤ γ) (hω : ω ≤ γ) (L : Side → Log) where
     -- what is to be shown
     abbrev Upholds : Side → Model → Said Moved → Type 0
     Upholds x m v = ((y : Side) → SpacedBy γ (logged L x m v y .draws)) → Inv (logged L x m v) x (modelAfter m v)
@@ -137,7 +137,7 @@ module _ (γ : ℕ) where
     upholds-relinked B m k h ok sp = with-peer (unmoved (relink h ok))
 
     -- a step of x in m; before it the model was m₀
-    upholds-step : (x : Side) (m₀ m : Model) (o : Step) → Inv L x m → o .next .rcvwnd < γ
+    upholds-step : (x : Side) (m₀ m : Model) (o : Step) → Inv L x m → o .next .rcvwnd ≤ ω
         → (SpacedBy γ (onto (numbers o) (L x .draws)) → SpacedBy γ (L (peerOf x) .draws) → Upheld (L x) (L (peerOf x)) o)
         → Upholds x m₀ (moved x m (given o))
     unfolding moved stationOf toward withStation withToward
@@ -160,7 +160,7 @@ module _ (γ : ℕ) where
         go (given o) q =
             upholds-step x m₀ m o h
             (omega (arith, ap (λ (z : Station). z .rcvwnd) (event-kept s e o q), rw is at (h .mine .window)))
-            (λ sp far. event-upheld γ hγ s e o q (h .logs) (rw is at (h .mine .state)) (rw is at (h .mine .window)) came far sp)
+            (λ sp far. event-upheld γ hγ s e o q (h .logs) (rw is at (h .mine .state)) (omega (arith, rw is at (h .mine .window))) came far sp)
 
     place : (k : Link) (n : ℕ) → not (hasPlace k n) ≡ false → n < k .count
     unfolding hasPlace

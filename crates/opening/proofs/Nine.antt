@@ -34,7 +34,7 @@ use Rattle.opening.proofs.Exchange.{Stand, stand-turned, stand-back, no
 
 -- a model for the nine steps: x established, its peer closed, a place free on each link, and the number of the peer outside the window
 -- of x and not the one that x acknowledges
-pub record Ready (x : Side) (n : ℕ) (m : Model) : Type 0 where
+pub record Fit (x : Side) (n : ℕ) (m : Model) : Type 0 where
   pub sound : sound m ≡ true
   pub sized : (z : Side) → Sized (toward z m)
   pub room : (z : Side) → length (held (toward z m)) < 32
@@ -43,7 +43,7 @@ pub record Ready (x : Side) (n : ℕ) (m : Model) : Type 0 where
   pub far : stationOf x m .rcvwnd ≤ minus n (stationOf x m .rcvnxt)
   pub other : stationOf x m .rcvnxt ≡ plus n 1 → ⊥
 
-module _ (x : Side) (m : Model) (n k f₁ f₂ f₃ f₄ f₅ : ℕ) (ready : Ready x n m) where
+module _ (x : Side) (m : Model) (n k f₁ f₂ f₃ f₄ f₅ : ℕ) (fit : Fit x n m) where
   abbrev y : Side
   y = peerOf x
 
@@ -71,16 +71,16 @@ module _ (x : Side) (m : Model) (n k f₁ f₂ f₃ f₄ f₅ : ℕ) (ready : Re
   os = held (toward y m)
 
   room-x : length is < 32
-  room-x = ready .room x
+  room-x = fit .room x
 
   room-y : length os < 32
-  room-y = ready .room y
+  room-y = fit .room y
 
   fs : formed s ≡ true
-  fs = parts m (ready .sound) .forms x
+  fs = parts m (fit .sound) .forms x
 
   st : Facing s t
-  st = facing-at x m (parts m (ready .sound))
+  st = facing-at x m (parts m (fit .sound))
 
   ts : Facing t s
   ts = facing-turned s t st
@@ -89,8 +89,8 @@ module _ (x : Side) (m : Model) (n k f₁ f₂ f₃ f₄ f₅ : ℕ) (ready : Re
   stand = record {
     me = refl;
     you = refl;
-    out = record { sized = ready .sized y; are = refl };
-    inn = record { sized = ready .sized x; are = refl };
+    out = record { sized = fit .sized y; are = refl };
+    inn = record { sized = fit .sized x; are = refl };
   }
 
   -- "B opens", and so on: x is in A's part, d₁ to d₉ are the steps
@@ -99,11 +99,11 @@ module _ (x : Side) (m : Model) (n k f₁ f₂ f₃ f₄ f₅ : ℕ) (ready : Re
 
   opens : eventSaid t (Station.Open n) ≡ given (drawing t₁ (synOf t₁))
   unfolding openStep
-  opens = met-open t n (parts m (ready .sound) .forms y) (ready .closed)
+  opens = met-open t n (parts m (fit .sound) .forms y) (fit .closed)
 
   d₁ : Done y (drawing t₁ (synOf t₁)) s is os m (Open y n)
   unfolding applied
-  d₁ = call-done (Open y n) (Station.Open n) refl refl (ready .sound) (stand-turned stand) opens room-x (omega arith)
+  d₁ = call-done (Open y n) (Station.Open n) refl refl (fit .sound) (stand-turned stand) opens room-x (omega arith)
 
   ft : formed t₁ ≡ true
   ft = keeps-forms .event t (Station.Open n) _ opens
@@ -115,21 +115,21 @@ module _ (x : Side) (m : Model) (n k f₁ f₂ f₃ f₄ f₅ : ℕ) (ready : Re
   d₂ : Done x (sending s (ackOf s)) t₁ os is m₁ (Deliver x (length is) f₁)
   d₂ =
       deliver-done (synOf t₁) f₁ (d₁ .sound) (stand-back (d₁ .stands))
-      (met-syn s t n k f₁ fs st (ready .established) (ready .far)) room-y (omega arith)
+      (met-syn s t n k f₁ fs st (fit .established) (fit .far)) room-y (omega arith)
 
   -- "A's ACK is delivered"
   abbrev m₃ : Model
   m₃ = next m₂ (Deliver y (length os) f₂)
 
   d₃ : Done y (sending t₁ (rstOf t (s .rcvnxt))) s is os m₂ (Deliver y (length os) f₂)
-  d₃ = deliver-done (ackOf s) f₂ (d₂ .sound) (stand-turned (d₂ .stands)) (met-ack s t n k f₂ ft ts (ready .other)) room-x (omega arith)
+  d₃ = deliver-done (ackOf s) f₂ (d₂ .sound) (stand-turned (d₂ .stands)) (met-ack s t n k f₂ ft ts (fit .other)) room-x (omega arith)
 
   -- "B's RST is delivered and A is closed"
   abbrev m₄ : Model
   m₄ = next m₃ (Deliver x (length is) f₃)
 
   closes : eventSaid s (Station.Arrive (rstOf t (s .rcvnxt)) f₃) ≡ given (quiet (closedOf s))
-  closes = met-reset s t n k f₃ fs st (ready .established) (established-form s fs (ready .established))
+  closes = met-reset s t n k f₃ fs st (fit .established) (established-form s fs (fit .established))
 
   d₄ : Done x (quiet (closedOf s)) t₁ os is m₃ (Deliver x (length is) f₃)
   d₄ = deliver-done (rstOf t (s .rcvnxt)) f₃ (d₃ .sound) (stand-back (d₃ .stands)) closes room-y (omega arith)

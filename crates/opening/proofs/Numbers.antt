@@ -9,48 +9,25 @@ use lib.Dec.{eqb}
 use lib.ListN.{length}
 use borrow.Author.Tests.{eqb-true, eq-eqb, ne-eqb}
 use Rattle.seq.specs.Seq.{plus, minus}
-use Rattle.opening.specs.History.{All, Apart, Spaced}
+use Rattle.opening.specs.History.{ApartBy, All, SpacedBy}
 use Rattle.opening.proofs.Circle.{one-more, minus-self, beyond-next}
 
 -- ---- every element
 
-abbrev pub Each : {S : Type 0} → (S → Type 0) → List S → Type 0
-Each P [] = Unit
-Each P (x ∷ l) = P x × Each P l
-
 module _ {S : Type 0} (P : S → Type 0) where
-  pub each-append : (l k : List S) → Each P l → Each P k → Each P (l ++ k)
+  pub each-append : (l k : List S) → All P l → All P k → All P (l ++ k)
   each-append [] k h h′ = h′
   each-append (x ∷ l) k h h′ = (h .0, each-append l k (h .1) h′)
 
-  pub each-map : (Q : S → Type 0) → ((s : S) → P s → Q s) → (l : List S) → Each P l → Each Q l
+  pub each-map : (Q : S → Type 0) → ((s : S) → P s → Q s) → (l : List S) → All P l → All Q l
   each-map Q f [] h = tt
   each-map Q f (x ∷ l) h = (f x (h .0), each-map Q f l (h .1))
 
-  each-at : {l : List S} {s : S} → Each P l → List·Memᴰ s l → P s
+  each-at : {l : List S} {s : S} → All P l → List·Memᴰ s l → P s
   each-at h (List·Memᴰ·head e) = subst P (sym e) (h .0)
   each-at h (List·Memᴰ·tail m) = each-at (h .1) m
 
 -- ---- spacing by γ
-
-abbrev pub ApartBy : ℕ → ℕ → ℕ → Type 0
-ApartBy γ m n = (γ ≤ minus m n) × (γ ≤ minus n m)
-
-abbrev pub SpacedBy : ℕ → List ℕ → Type 0
-SpacedBy γ [] = Unit
-SpacedBy γ (n ∷ ns) = (n < 2 ^ 32) × Each (ApartBy γ n) ns × SpacedBy γ ns
-
--- the spacing of the demand: from here on it is carried as γ, a number above every window
-abbrev pub spacing : ℕ
-spacing = 65536
-
-pub spaced-by : (ns : List ℕ) → Spaced ns → SpacedBy spacing ns
-spaced-by [] h = tt
-spaced-by (n ∷ ns) h = (h .0, each ns (h .1), spaced-by ns (h .2))
-  where
-    each : (ks : List ℕ) → All (Apart n) ks → Each (ApartBy spacing n) ks
-    each [] a = tt
-    each (k ∷ ks) a = (a .0, each ks (a .1))
 
 pub spaced-lt : (γ : ℕ) (ns : List ℕ) {n : ℕ} → SpacedBy γ ns → List·Memᴰ n ns → n < 2 ^ 32
 spaced-lt γ (k ∷ ns) sp (List·Memᴰ·head e) = rw e (sp .0)
@@ -113,18 +90,18 @@ module _ (γ : ℕ) where
   spaced-before [] d h = h
   spaced-before (x ∷ f) d h = spaced-before f (x ∷ d) h .2
 
-  spaced-onto : (f d : List ℕ) → SpacedBy γ f → SpacedBy γ d → Each (λ (x : ℕ). Each (ApartBy γ x) d) f → SpacedBy γ (onto f d)
+  spaced-onto : (f d : List ℕ) → SpacedBy γ f → SpacedBy γ d → All (λ (x : ℕ). All (ApartBy γ x) d) f → SpacedBy γ (onto f d)
   spaced-onto [] d hf hd h = hd
   spaced-onto (x ∷ f) d hf hd h = spaced-onto f (x ∷ d) (hf .2) (hf .0, h .0, hd) (both f (hf .1) (h .1))
     where
-      both : (g : List ℕ) → Each (ApartBy γ x) g → Each (λ (z : ℕ). Each (ApartBy γ z) d) g → Each (λ (z : ℕ). Each (ApartBy γ z) (x ∷ d)) g
+      both : (g : List ℕ) → All (ApartBy γ x) g → All (λ (z : ℕ). All (ApartBy γ z) d) g → All (λ (z : ℕ). All (ApartBy γ z) (x ∷ d)) g
       both [] p q = tt
       both (z ∷ g) p q = (((p .0 .1, p .0 .0), q .0), both g (p .1) (q .1))
 
   pub spaced-turned : (f : List ℕ) → SpacedBy γ f → SpacedBy γ (onto f [])
   spaced-turned f h = spaced-onto f [] h tt (none f)
     where
-      none : (g : List ℕ) → Each (λ (x : ℕ). Unit) g
+      none : (g : List ℕ) → All (λ (x : ℕ). Unit) g
       none [] = tt
       none (x ∷ g) = (tt, none g)
 

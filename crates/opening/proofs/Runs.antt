@@ -17,9 +17,9 @@ use Rattle.model.specs.declared.Side.{Side}
 use Rattle.model.specs.declared.Side.the-variants.{A}
 use Rattle.model.specs.declared.Model.{Model}
 use Rattle.model.specs.declared.Event.{Event}
-use Rattle.opening.specs.History.{playedAll, unlessRefused, eventsOf, next, sideOf, drawnAt, draws, Records, Recorded}
+use Rattle.opening.specs.History.{playedAll, unlessRefused, eventsOf, next, sideOf, drawnAt, draws, Records, Recorded, SpacedBy}
 use Rattle.station.proofs.Keeps.{by-case}
-use Rattle.opening.proofs.Numbers.{SpacedBy, onto, onto-append, mem-onto, spaced-before}
+use Rattle.opening.proofs.Numbers.{onto, onto-append, mem-onto, spaced-before}
 use Rattle.opening.proofs.Logs.{Pair, Log, Drew, Held}
 use Rattle.opening.proofs.Invariant.{noted, pairAt}
 use Rattle.opening.proofs.Moves.{logged, Inv, seen-by, upholds}
@@ -171,18 +171,19 @@ was-recorded x (e ∷ es) m L i r h = go (was-recorded x es (next m e) (logged L
 
 -- ---- a run upholds the invariant
 
-pub after-upheld : (γ : ℕ) → 1 ≤ γ → (es : List Event) (m : Model) (L : Side → Log) → Inv γ L A m
-    → ((x : Side) → SpacedBy γ (onto (draws x m es) (L x .draws))) → Inv γ (logsAfter L m es) A (after m es)
-unfolding draws drawnAt
-after-upheld γ hγ [] m L h sp = h
-after-upheld γ hγ (e ∷ es) m L h sp =
-    after-upheld γ hγ es (next m e) L′ (seen-by γ L′ (sideOf e) A (next m e) (upholds γ hγ L m e (seen-by γ L A (sideOf e) m h) now)) later
-  where
-    L′ : Side → Log
-    L′ = logged L (sideOf e) m (stepSaid m e)
+module _ (ω γ : ℕ) (hγ : 1 ≤ γ) (hω : ω ≤ γ) where
+  pub after-upheld : (es : List Event) (m : Model) (L : Side → Log) → Inv ω L A m
+      → ((x : Side) → SpacedBy γ (onto (draws x m es) (L x .draws))) → Inv ω (logsAfter L m es) A (after m es)
+  unfolding draws drawnAt
+  after-upheld [] m L h sp = h
+  after-upheld (e ∷ es) m L h sp =
+      after-upheld es (next m e) L′ (seen-by ω L′ (sideOf e) A (next m e) (upholds ω γ hγ hω L m e (seen-by ω L A (sideOf e) m h) now)) later
+    where
+      L′ : Side → Log
+      L′ = logged L (sideOf e) m (stepSaid m e)
 
-    later : (x : Side) → SpacedBy γ (onto (draws x (next m e) es) (L′ x .draws))
-    later x = subst (SpacedBy γ) (onto-append (drawnAt x m e) (draws x (next m e) es) (L x .draws)) (sp x)
+      later : (x : Side) → SpacedBy γ (onto (draws x (next m e) es) (L′ x .draws))
+      later x = subst (SpacedBy γ) (onto-append (drawnAt x m e) (draws x (next m e) es) (L x .draws)) (sp x)
 
-    now : (x : Side) → SpacedBy γ (L′ x .draws)
-    now x = spaced-before γ (draws x (next m e) es) (L′ x .draws) (later x)
+      now : (x : Side) → SpacedBy γ (L′ x .draws)
+      now x = spaced-before γ (draws x (next m e) es) (L′ x .draws) (later x)

@@ -1,4 +1,4 @@
--- Every event that a station takes upholds the invariant. Assumes a spacing that is above the window.
+-- Every event that a station takes upholds the invariant. Assumes a spacing that is no less than the window.
 use Prim.Native.Nat.{ℕ, _<_, _≤_, _^_}
 use mathlib.Core.Path.{_≡_, refl, sym, _∙_, subst}
 use mathlib.Core.Bool.{true, false, not, _&&_, _||_, true≢false, false≢true}
@@ -24,10 +24,11 @@ use Rattle.station.specs.declared.Event.the-variants as Event
 use Rattle.station.proofs.Uniform.{eventTests, eventStep, event-first, event-past}
 use Rattle.station.proofs.Exact.{is-state}
 use Rattle.station.proofs.Keeps.{by-case}
+use Rattle.opening.specs.History.{SpacedBy}
 use Rattle.opening.proofs.Checks.{second-off, second-on}
 use Rattle.opening.proofs.Forms.{Synchronized, received-form, established-form}
 use Rattle.opening.proofs.Circle.{one-more, minus-next}
-use Rattle.opening.proofs.Numbers.{SpacedBy, spaced-lt, spaced-near, spaced-new, onto, Newest}
+use Rattle.opening.proofs.Numbers.{spaced-lt, spaced-near, spaced-new, onto, Newest}
 use Rattle.opening.proofs.Logs.{Log, Drew, Held, plusDraw, plusPair, Logs, newest-drew, drawn-ok, paired-ok}
 use Rattle.opening.proofs.Invariant.{StationOk, SegmentOk, numbers, Upheld, rest}
 
@@ -144,7 +145,7 @@ module _ (γ : ℕ) (hγ : 1 ≤ γ) {l m : Log} (s : Station) (logs : Logs l m)
         r-lt = spaced-lt γ (l .draws) sp (logs .theirs .known j r k .1)
 
     -- it sends from j, in the window behind r, which it drew too: then j is r, by the spacing
-    its-number : (i r j : ℕ) → s .rcvwnd < γ → Drew m r → Held m j i → segSeq g ≡ plus j 1 → minus (segSeq g) (plus r 1) < s .rcvwnd
+    its-number : (i r j : ℕ) → s .rcvwnd ≤ γ → Drew m r → Held m j i → segSeq g ≡ plus j 1 → minus (segSeq g) (plus r 1) < s .rcvwnd
         → Held m r i
     its-number i r j hw dr k e win = subst (λ (z : ℕ). Held m z i) (spaced-near γ (m .draws) j r far dj dr near) k
       where
@@ -183,7 +184,7 @@ module _ (γ : ℕ) (hγ : 1 ≤ γ) {l m : Log} (s : Station) (logs : Logs l m)
         (λ q. by-case Ok (hasRst g) (λ _. by-case Ok (hasAck g) (λ _. to-closed) (λ _. dropped))
         (λ nr. by-case Ok (hasSyn g) (paired e q nr) (λ _. dropped)))
 
-    module _ (hw : s .rcvwnd < γ) (top : Newest (l .draws) (s .iss)) (held : Held l (s .iss) (s .irs)) (form : Synchronized s) where
+    module _ (hw : s .rcvwnd ≤ γ) (top : Newest (l .draws) (s .iss)) (held : Held l (s .iss) (s .irs)) (form : Synchronized s) where
       -- an ACK in the window of my number comes from the opening that is recorded here
       confirmed : inWindow s g ≡ true → hasRst g ≡ false → hasSyn g ≡ false → hasAck g ≡ true → segAck g ≡ plus (s .iss) 1
           → Ok (quiet (establishedOf s (s .passive) (s .iss) (s .irs)))
@@ -212,7 +213,7 @@ module _ (γ : ℕ) (hγ : 1 ≤ γ) {l m : Log} (s : Station) (logs : Logs l m)
           (λ q. confirmed (not-false _ w) nr ns (not-false _ a) (eqb-true _ _ q)) (λ _. reset))
           (λ _. by-case Ok (isLater (order (segAck g) (s .nxt))) (λ _. ack) (λ _. dropped))))))
 
-    arrival-ok : (fresh : ℕ) → formed s ≡ true → s .rcvwnd < γ → Ok (arrivalAt (s .state) s g fresh)
+    arrival-ok : (fresh : ℕ) → formed s ≡ true → s .rcvwnd ≤ γ → Ok (arrivalAt (s .state) s g fresh)
     unfolding arrivalAt
     arrival-ok fresh f hw = go (s .state) refl
       where
@@ -233,7 +234,7 @@ Came m Event.PowerCut = Unit
 Came m (Event.Arrive g fresh) = SegmentOk m g
 
 pub event-upheld : (γ : ℕ) → 1 ≤ γ → {l m : Log} (s : Station) (e : Event) (o : Step) → eventSaid s e ≡ given o
-    → Logs l m → StationOk s l m → s .rcvwnd < γ → Came m e → SpacedBy γ (m .draws) → SpacedBy γ (onto (numbers o) (l .draws))
+    → Logs l m → StationOk s l m → s .rcvwnd ≤ γ → Came m e → SpacedBy γ (m .draws) → SpacedBy γ (onto (numbers o) (l .draws))
     → Upheld l m o
 unfolding AllOff
 event-upheld γ hγ {l} {m} s e o says logs h hw came far = rw (← p .1) (go e came off)

@@ -91,16 +91,24 @@ unfoldable pub Recorded : Side → Model → List Event → ℕ → ℕ → Type
 Recorded x m [] iss irs = Records (stationOf x m) iss irs
 Recorded x m (e ∷ es) iss irs = Records (stationOf x m) iss irs ⊎ Recorded x (next m e) es iss irs
 
--- "at least 65,536 apart, either way round the circle of 2^32"
-abbrev pub Apart : ℕ → ℕ → Type 0
-Apart m n = (65536 ≤ minus m n) × (65536 ≤ minus n m)
+-- "either way round the circle of 2^32": at least γ apart, counted forwards and counted backwards
+abbrev pub ApartBy : ℕ → ℕ → ℕ → Type 0
+ApartBy γ m n = (γ ≤ minus m n) × (γ ≤ minus n m)
 
--- what holds of every number of a list
-abbrev pub All : (ℕ → Type 0) → List ℕ → Type 0
+-- what holds of all in a list
+abbrev pub All : {S : Type 0} → (S → Type 0) → List S → Type 0
 All P [] = Unit
-All P (n ∷ ns) = P n × All P ns
+All P (x ∷ l) = P x × All P l
 
 -- "Any two starting numbers drawn by one station": numbers of 32 bits, each apart from all that follow it
+abbrev pub SpacedBy : ℕ → List ℕ → Type 0
+SpacedBy γ [] = Unit
+SpacedBy γ (n ∷ ns) = (n < 2 ^ 32) × All (ApartBy γ n) ns × SpacedBy γ ns
+
+-- "at least 65,536 apart"
+abbrev pub spacing : ℕ
+spacing = 65536
+
+-- numbers that keep the spacing
 abbrev pub Spaced : List ℕ → Type 0
-Spaced [] = Unit
-Spaced (n ∷ ns) = (n < 2 ^ 32) × All (Apart n) ns × Spaced ns
+Spaced ns = SpacedBy spacing ns

@@ -13,8 +13,8 @@ use Rattle.model.specs.declared.Link.{Link}
 use Rattle.model.specs.declared.Model.{Model}
 use Rattle.model.specs.declared.Event.{Event}
 use Rattle.model.specs.declared.Event.the-variants.{Open, Listen, PowerCut, Deliver, Copy}
-use Rattle.opening.specs.History.{Start, playedAll, eventsOf, draws}
-use Rattle.opening.specs.Statement.{History, Agree, nine}
+use Rattle.opening.specs.History.{playedAll, eventsOf, draws}
+use Rattle.opening.specs.Statement.{HistoryBy, History, Agree, Ready, nine, Clear}
 
 -- a closed station with a window, its own endpoint and its peer's
 abbrev pub closedWith : ℕ → ℕ → ℕ → ℕ → ℕ → Station
@@ -101,31 +101,65 @@ abbrev pub RecoveryShows : Type 0
 RecoveryShows =
     Shows 4096 (plain ∷ cut ∷ recovery ∷ []) (200000 ∷ 600000 ∷ []) (100 ∷ 400000 ∷ []) (established 600000 400000) (established 400000 600000)
 
--- the hypotheses of demand 3 can be met
+-- a plain opening that leaves 31 old segments on each link, and a power cut at B
+abbrev pub crowded : List Event
+crowded =
+    Listen A ∷ Open B 4294967295 ∷ replicate 31 (Copy A 0)
+    ++ (Deliver A 0 65536 ∷ replicate 31 (Copy B 0))
+    ++ (Deliver B 0 0 ∷ Deliver A 31 0 ∷ PowerCut B ∷ [])
+
+-- the nine steps with numbers exactly 65,536 from the old ones: B's forwards round the circle, A's backwards
+abbrev pub justFar : List Event
+justFar = nine A 31 31 65535 0 1 2 3 4 5
+
+-- the same at the edge: windows of 65,535, one place free on each link, and among the numbers the first and the last of the circle
+abbrev pub EdgeShows : Type 0
+EdgeShows =
+    Shows 65535 (crowded ∷ justFar ∷ []) (65536 ∷ 0 ∷ []) (4294967295 ∷ 65535 ∷ []) (established 0 65535) (established 65535 0)
+
+-- the hypotheses of demand 3 can be met, at their edge too
 pub record ReachableExists : Type 0 where
   pub plainly : History (barn 4096) (plain ∷ []) × PlainShows
   pub crossed : History (barn 4096) (crossing ∷ []) × CrossingShows
   pub recovered : History (barn 4096) (plain ∷ cut ∷ recovery ∷ []) × RecoveryShows
+  -- at the edge, before the nine steps and after them
+  pub ready : Ready (barn 65535) (crowded ∷ []) A 65535 0
+  pub edge : History (barn 65535) (crowded ∷ justFar ∷ []) × EdgeShows
 
--- "Numbers only distinct, not spaced": A draws 380 and 400, B draws 100 and 50
-abbrev pub near : List Event
-near =
-    Open A 380 ∷ PowerCut A ∷ Open A 400
-    ∷ Listen B ∷ Copy B 1 ∷ Deliver B 1 100 ∷ Deliver B 1 0
-    ∷ PowerCut B ∷ Open B 50
+-- A draws a₁ and a₂, B draws b₁ and b₂: an ACK of the opening from b₁ reaches A in SYN-RECEIVED with IRS b₂, and then one of the
+-- opening from a₂ reaches B with IRS a₁
+abbrev pub late : ℕ → ℕ → ℕ → ℕ → List Event
+late a₁ a₂ b₁ b₂ =
+    Open A a₁ ∷ PowerCut A ∷ Open A a₂
+    ∷ Listen B ∷ Copy B 1 ∷ Deliver B 1 b₁ ∷ Deliver B 1 0
+    ∷ PowerCut B ∷ Open B b₂
     ∷ Copy A 2 ∷ Deliver A 2 0 ∷ Deliver A 1 0
     ∷ Deliver B 0 0 ∷ Deliver A 1 0 ∷ Deliver B 1 0
     ∷ []
 
--- both are established, and B holds 380 where A's number is 400
+-- "Numbers only distinct, not spaced"
+abbrev pub near : List Event
+near = late 380 400 100 50
+
+-- "an ACK from another opening falls in the window, and both ends can be established on different numbers": B holds 380 where A's
+-- number is 400
 abbrev pub NearShows : Type 0
 NearShows = Shows 4096 (near ∷ []) (380 ∷ 400 ∷ []) (100 ∷ 50 ∷ []) (established 400 50) (established 50 380)
 
--- the nine steps with B's new number 65,535 past its old one, 100, at a window of 65,535
+-- numbers 65,534 apart
+abbrev pub inside : List Event
+inside = late 100000 165534 265534 200000
+
+-- the last number of a window of 65,535: B holds 100,000 where A's number is 165,534
+abbrev pub InsideShows : Type 0
+InsideShows =
+    Shows 65535 (inside ∷ []) (100000 ∷ 165534 ∷ []) (265534 ∷ 200000 ∷ []) (established 165534 200000) (established 200000 100000)
+
+-- the nine steps with B's new number 65,535 past its old one, 100
 abbrev pub tooNear : List Event
 tooNear = nine A 0 0 65635 400000 1 2 3 4 5
 
--- A takes the SYN for one in its window and closes, and so B closes: the bound is sharp for the nine steps
+-- at a window of 65,535 A takes the SYN for one in its window and closes, and so B closes
 abbrev pub TooNearShows : Type 0
 TooNearShows =
     Shows 65535 (plain ∷ cut ∷ tooNear ∷ []) (200000 ∷ []) (100 ∷ 65635 ∷ [])
@@ -135,7 +169,11 @@ TooNearShows =
 pub record SpacingIsNeeded : Type 0 where
   pub distinct : NearShows
   pub disagrees : Agree (barn 4096) (near ∷ []) → ⊥
-  pub sharp : TooNearShows
+  -- the bound is sharp for agreement: one less than the window is too near
+  pub spaced : HistoryBy 65534 (barn 65535) (inside ∷ []) × InsideShows
+  pub breaks : Agree (barn 65535) (inside ∷ []) → ⊥
+  -- and for the nine steps: the window, enough for agreement, is too near
+  pub sharp : Clear 65535 (barn 65535) (plain ∷ cut ∷ tooNear ∷ []) × TooNearShows
 
 -- the story of the request: the barn box A draws 100,000 again after its power cut, and takes the old opening's late SYN,ACK for its own
 abbrev pub story : List Event
