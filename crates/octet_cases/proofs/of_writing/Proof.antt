@@ -2,8 +2,8 @@ use mathlib.Core.Path.{refl}
 use Rattle.checksum.specs.Sum.{words, addedBack, carried, addressWords, sumOf, checksumOf}
 use Rattle.segment.specs.Write.{made, writeTests, writeSaid, writeLeaves}
 use Rattle.examples.proofs.Each.{_&_}
-use Rattle.cases.proofs.of_writing.Statement.{statement}
-use Rattle.cases.proofs.of_writing.Tie as tie
+use Rattle.octet_cases.proofs.of_writing.Statement.{statement}
+use Rattle.octet_cases.proofs.of_writing.Tie as tie
 
 -- every case is computed
 returns : tie.Need-returns

@@ -5,8 +5,8 @@ use Rattle.station.specs.Forms.{zeroed, formAt, formed, with, receivedOf}
 use Rattle.station.specs.Sent.{bits, sends, synAckOf}
 use Rattle.station.specs.Arrival.{atListen, arrivalAt, ours, endpointTests, octetsSaid}
 use Rattle.examples.proofs.Each.{_&_}
-use Rattle.cases.proofs.of_arriving.Statement.{statement}
-use Rattle.cases.proofs.of_arriving.Tie as tie
+use Rattle.octet_cases.proofs.of_arriving.Statement.{statement}
+use Rattle.octet_cases.proofs.of_arriving.Tie as tie
 
 -- every case is computed
 returns : tie.Need-returns

@@ -2,10 +2,10 @@ use mathlib.Core.Path.{refl}
 use Rattle.checksum.specs.Sum.{words, addedBack, carried, addressWords, sumOf}
 use Rattle.segment.specs.Read.{fieldTests, readTests, readSaid}
 use Rattle.examples.proofs.Each.{_&_}
-use Rattle.cases.specs.Octets.{longest}
+use Rattle.octet_cases.specs.Octets.{longest}
 use Rattle.examples.specs.Spelled.{AllHold}
-use Rattle.cases.proofs.of_reading.Statement.{statement}
-use Rattle.cases.proofs.of_reading.Tie as tie
+use Rattle.octet_cases.proofs.of_reading.Statement.{statement}
+use Rattle.octet_cases.proofs.of_reading.Tie as tie
 
 -- by the length alone, and by octet 12
 long : AllHold longest

@@ -9,8 +9,8 @@ use Rattle.station.specs.Arrival.{atClosed, atListen, wrongAck, synAtSynSent, a
 use Rattle.datagram.specs.Layout.{carriedBy, stopsAt, headerChecksum, datagramOf}
 use Rattle.datagram.specs.Program.{datagramsOf, heardBy, heard, answers, output}
 use Rattle.examples.proofs.Each.{_&_}
-use Rattle.cases.proofs.of_the_program.Statement.{statement}
-use Rattle.cases.proofs.of_the_program.Tie as tie
+use Rattle.octet_cases.proofs.of_the_program.Statement.{statement}
+use Rattle.octet_cases.proofs.of_the_program.Tie as tie
 
 -- every case is computed
 returns : tie.Need-returns
