@@ -2,7 +2,7 @@
 --     Beside L         such a parameter, at the L lifetimes of the call that it is handed to.        number, segment, octets
 --     slots, rows      a list of them in a contract.        typed-all     what they own shows that their machine values are of their MIR types
 --     ends, silent     nothing is bound of them at exit, and nothing is said
---     Shape Xs         a contract whose first parameter is of some type and whose others are Xs.        takes, ending, gives, tripleAt     what `tripleOf` makes of it, as entries of a walk's context.        asks     a call
+--     Shape Xs         a contract whose first parameter is of some type and whose others are Xs.        takes, ending, gives, tripleAt     what `tripleOf` makes of it, as entries of a walk's context.        asks, asks-last     a call
 -- `typed-all` and `silent` take `Given`. The rest assumes nothing.
 use Prim.Native.Nat.{ℕ}
 use mathlib.Core.List.{List, [], _∷_, _++_}
@@ -16,7 +16,7 @@ use ghost.Atoms.{Atoms}
 use sound.WpLaws.{FmC}
 use contract.Lifetimes.{Lfts, Shares, toks}
 use contract.Monad.{fact, fact-use}
-use types.Kit.{Given, Item, Goal, Post, runs, lands, Seq, Step, step, mean, ‵, raw, _⊛_, some, given, later, _$_, move, drop, use1, split, pick, learn, fjoin, await}
+use types.Kit.{Given, Item, Goal, Post, runs, lands, Seq, Step, step, mean, ‵, raw, _⊛_, some, given, later, _$_, move, drop, use1, split, pick, learn, fsplit, fjoin, await}
 use types.Run.{Opds}
 use denote.Exit.{yes, unchanged, Last, left}
 use denote.RattleType.{RattleType, Denots, Valss, mirs, flat, owns}
@@ -43,9 +43,9 @@ number = record { row = λ κs. u32; lawful = λ 𝓤 H A W κs. uint-lawful �
 abbrev pub segment : {L : ℕ} → Beside L
 segment = record { row = λ κs. G.the-row; lawful = λ 𝓤 H A W κs. LL.lawful G.the-type G′.the-laws 𝓤 H A W }
 
--- the lent record's lifetime is number 0, and the octets' is the next
-abbrev pub octets : Beside 1
-octets = record { row = λ κs. ShrSlice (named 1) (κs .0) u8; lawful = λ 𝓤 H A W κs. shr-slice-lawful 𝓤 H A W (named 1) (κs .0) u8 }
+-- the octets' lifetime is number n of the function's own
+abbrev pub octets : ℕ → Beside 1
+octets n = record { row = λ κs. ShrSlice (named n) (κs .0) u8; lawful = λ 𝓤 H A W κs. shr-slice-lawful 𝓤 H A W (named n) (κs .0) u8 }
 
 -- seen at exit as it was passed, which each of these is by computation
 abbrev still : RattleType → RattleType
@@ -129,10 +129,18 @@ module _ {L : ℕ} {Xs : List (Beside L)} (P : Shape Xs) where
       post = λ y v. mean 𝓤 H A (later (some (gives (y .0) v)));
     }
 
-  -- the call rule, where the callee's entry meets it
-  pub asks : {M : Type 1} {𝓤 : URA M} {H : Heap 𝓤} {A : Atoms 𝓤} {K : Type 0} {W : Given 𝓤 H A} {Γ : List (Item 𝓤)} {E : Env 𝓤 H} {C : Calls 𝓤 H} {Λ : Loops 𝓤 H} {q : Post 𝓤 H} {f : Name} {xs : List Operand} {d : Place} {rest : Body}
-      → K → FmC 𝓤 H (W .laws) C → Triple 𝓤 (C f) (tripleAt 𝓤 H A) → (y : Bound) → Opds K W (takes 𝓤 H A y ∷ Γ) E xs (tripleAt 𝓤 H A .args (y, tt))
-      → ((v : Val) (r : P .result .Denot) (w : Last (P .first (y .0) .exit yes) (y .3 .0)) → P .says (y .0) (y .3 .0) (y .3 .1) r w → Seq K W (tokens 𝓤 H A y ∷ ‵ (P .result .own r (v ∷ [])) ∷ Γ) (lands C Λ E d v rest q))
-      → Seq K W (takes 𝓤 H A y ∷ Γ) (runs C Λ E (seq (call f xs d) rest) q)
-  asks {𝓤 = 𝓤} {H = H} {A = A} {W = W} t fm met y os k =
-      calls-from t fm _ _ _ (met (y, tt)) os (λ v. use1 W (later (some (gives 𝓤 H A y v))) (id⊢ 𝓤 _) $ await t tt $ pick t (λ r. split t $ split t $ move t (2 ∷ []) $ pick t (λ ws. split t $ drop t $ heard t _ (λ p. k v r (ws .0) p))))
+  module _ {M : Type 1} {𝓤 : URA M} {H : Heap 𝓤} {A : Atoms 𝓤} {K : Type 0} {W : Given 𝓤 H A} {Γ : List (Item 𝓤)} {E : Env 𝓤 H} {C : Calls 𝓤 H} {Λ : Loops 𝓤 H} {q : Post 𝓤 H} {f : Name} {xs : List Operand} {d : Place} {rest : Body} where
+    -- the call rule, where the callee's entry meets it; what says the first parameter's last value comes back beside the result
+    pub asks-last : K → FmC 𝓤 H (W .laws) C → Triple 𝓤 (C f) (tripleAt 𝓤 H A) → (y : Bound) → Opds K W (takes 𝓤 H A y ∷ Γ) E xs (tripleAt 𝓤 H A .args (y, tt))
+        → ((v : Val) (r : P .result .Denot) (w : Last (P .first (y .0) .exit yes) (y .3 .0)) → P .says (y .0) (y .3 .0) (y .3 .1) r w
+        → Seq K W (‵ (left (P .first (y .0) .exit yes) (y .3 .0) w) ∷ tokens 𝓤 H A y ∷ ‵ (P .result .own r (v ∷ [])) ∷ Γ) (lands C Λ E d v rest q))
+        → Seq K W (takes 𝓤 H A y ∷ Γ) (runs C Λ E (seq (call f xs d) rest) q)
+    asks-last t fm met y os k =
+        calls-from t fm _ _ _ (met (y, tt)) os (λ v. use1 W (later (some (gives 𝓤 H A y v))) (id⊢ 𝓤 _) $ await t tt $ pick t (λ r. split t $ split t $ move t (2 ∷ []) $ pick t (λ ws.
+        split t $ move t (1 ∷ []) $ heard t _ (λ p. fsplit t $ move t (1 ∷ []) $ drop t $ k v r (ws .0) p))))
+
+    -- the same, where the last value is not asked for
+    pub asks : K → FmC 𝓤 H (W .laws) C → Triple 𝓤 (C f) (tripleAt 𝓤 H A) → (y : Bound) → Opds K W (takes 𝓤 H A y ∷ Γ) E xs (tripleAt 𝓤 H A .args (y, tt))
+        → ((v : Val) (r : P .result .Denot) (w : Last (P .first (y .0) .exit yes) (y .3 .0)) → P .says (y .0) (y .3 .0) (y .3 .1) r w → Seq K W (tokens 𝓤 H A y ∷ ‵ (P .result .own r (v ∷ [])) ∷ Γ) (lands C Λ E d v rest q))
+        → Seq K W (takes 𝓤 H A y ∷ Γ) (runs C Λ E (seq (call f xs d) rest) q)
+    asks t fm met y os k = asks-last t fm met y os (λ v r w p. drop t $ k v r w p)

@@ -57,7 +57,7 @@ abbrev refTy : Ty
 refTy = tyRef (named 0) mut (pointee (S.the-row .written))
 
 -- the locals after the parameters: 0 the copy, 1 what is told, 2 the outcome
-abbrev after : List Ty → ℕ → ℕ
+abbrev pub after : List Ty → ℕ → ℕ
 after τs i = suc (suc (past τs i))
 
 abbrev fn : ℕ → List Ty → Name → Name → Fn
@@ -75,7 +75,7 @@ fn L τs g t = record {
 }
 
 -- ---- the contracts: of a call on the record by value, which says Q; and of `tell`
-abbrev ByValue : {L : ℕ} (Xs : List (Beside L)) (R : RattleType) → ((κs : Lfts L) → Station → Denots (rows Xs κs) → R .Denot → Type 0) → Shape Xs
+abbrev pub ByValue : {L : ℕ} (Xs : List (Beside L)) (R : RattleType) → ((κs : Lfts L) → Station → Denots (rows Xs κs) → R .Denot → Type 0) → Shape Xs
 ByValue {L} Xs R Q = record { lifetimes = L; others = λ κs. κs; first = λ κs. S.the-row; result = R; says = λ κs h a r w. Q κs h a r }
 
 abbrev outcome : Beside 0
@@ -85,7 +85,7 @@ abbrev Tell : Shape (outcome ∷ [])
 Tell = ByValue (outcome ∷ []) T.the-row (λ κs h a r. Lent h (said (a .0)) (r .station) (r .answer))
 
 -- ---- the machine values, and the types of what is told
-abbrev VS : Station → Val
+abbrev pub VS : Station → Val
 VS = LL.val S.the-type S′.the-laws
 
 abbrev VR : Answer → Val
@@ -98,7 +98,7 @@ module _ {L : ℕ} (Xs : List (Beside L)) (x : (κs : Lfts L) → Station → De
   abbrev Call : Shape Xs
   Call = ByValue Xs O.the-row (λ κs h a r. said r ≡ x κs h a)
 
-  abbrev Lend : Shape Xs
+  abbrev pub Lend : Shape Xs
   Lend = record {
     lifetimes = suc L;
     others = λ κs. κs .1;

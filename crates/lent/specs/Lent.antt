@@ -1,10 +1,14 @@
 -- The lent calls (01, "A station's record": "The station record is lent by its owner and updated there").
+use Prim.Native.Nat.{ℕ}
 use mathlib.Core.Path.{_≡_}
 use mathlib.Core.Bool.{Bool}
 use mathlib.Core.List.{List}
+use Rattle.segment.specs.declared.Refusal.{Refusal}
 use Rattle.segment.specs.declared.Segment.{Segment}
 use Rattle.segment.specs.Refusals.{number, Said, refused, given}
 use Rattle.station.specs.Outcomes.{Step, segments, recordAfter}
+use Rattle.station.specs.Calls.{openSaid, listenSaid, abortSaid, resendSaid, powerCutSaid}
+use Rattle.station.specs.Arrival.{arriveSaid, octetsSaid}
 use Rattle.station.specs.declared.Station.{Station}
 use Rattle.lent.specs.declared.Answer.{Answer}
 use Rattle.lent.specs.declared.Answer.the-variants.{Refused, Taken}
@@ -28,6 +32,20 @@ saidAnswer (Taken sent drawn) = given (record { sent = segments sent; drawn = dr
 pub record Lent (before : Station) (x : Said Step) (after : Station) (r : Answer) : Type 0 where
   pub answer : saidAnswer r ≡ replyOf x
   pub station : after ≡ recordAfter before x
+
+-- where a call that says x refuses, the record at exit is the one before
+abbrev pub Unchanged : (Station → Said Step) → Type 0
+Unchanged x = (before after : Station) (why : Refusal) → Lent before (x before) after (Refused why) → after ≡ before
+
+-- each lent call: "Each refusal carries its number from the papers, and then the record .. [is] unchanged" (the request's demand 1)
+pub record RefusedUnchanged : Type 0 where
+  pub opens : (n : ℕ) → Unchanged (λ s. openSaid s n)
+  pub listens : Unchanged listenSaid
+  pub aborts : Unchanged abortSaid
+  pub resends : Unchanged resendSaid
+  pub power-cuts : Unchanged powerCutSaid
+  pub arrives : (g : Segment) (fresh : ℕ) → Unchanged (λ s. arriveSaid s g fresh)
+  pub octets-arrive : (src dst : ℕ) (octets : List ℕ) (fresh : ℕ) → Unchanged (λ s. octetsSaid s src dst octets fresh)
 
 -- the promises leave one outcome (01, "How far a contract must go")
 pub record OneOutcome : Type 0 where

@@ -3,7 +3,7 @@
 ghost use Rattle.station.specs.Outcomes.{said};
 ghost use Rattle.station.specs.Calls.{openSaid, listenSaid, abortSaid, resendSaid, powerCutSaid};
 ghost use Rattle.station.specs.Arrival.{arriveSaid, octetsSaid};
-ghost use Rattle.lent.specs.Lent.{Lent, OneOutcome};
+ghost use Rattle.lent.specs.Lent.{Lent, OneOutcome, RefusedUnchanged};
 use segment::Refusal;
 use segment::Segment;
 use station::Outcome;
@@ -109,7 +109,12 @@ pub fn octets_lent(s: &mut Station, src: u32, dst: u32, octets: &[u8], fresh: u3
     told.answer
 }
 
-// ---- a theorem, promised by a function that does nothing
+// ---- theorems, each promised by a function that does nothing
+
+// After a refusal the record at exit is the one before it.
+pub fn refused_unchanged()
+    ensures { λ r. ⌜ RefusedUnchanged ⌝ }
+{}
 
 // The contracts leave one outcome.
 pub fn one_outcome()

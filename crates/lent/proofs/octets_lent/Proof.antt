@@ -8,5 +8,5 @@ use Rattle.lent.proofs.octets_lent.Code as code
 pub octets-lent-spec : {M : Type 1} → statement M
 unfolding code.routine
 octets-lent-spec 𝓤 H 𝓜 𝓖 𝓡 =
-    lent (number ∷ number ∷ octets ∷ number ∷ []) _ 𝓤 H 𝓜 𝓖 𝓡 code.env code.routine code.calls-lent·tell
+    lent (number ∷ number ∷ octets 1 ∷ number ∷ []) _ 𝓤 H 𝓜 𝓖 𝓡 code.env code.routine code.calls-lent·tell
     code.calls-station·Station·arrive-octets (call.met 𝓤 H 𝓜 𝓖 𝓡) (λ κs. code.unfolded 𝓤 H 𝓜 𝓡)
