@@ -1,8 +1,12 @@
 /* Every function of tabor.h with known answers. What is expected stands here by hand from the paper 01
  * (P1 to P12 are its examples, "a" to "e" its checks) and, where 01 is silent, from docs/DECISIONS.md; no
  * run of the library is its source. A wrong answer prints its line, the value given and the value due. */
+#define _DEFAULT_SOURCE /* mmap of memory that is no file */
+#include <signal.h>
 #include <stdio.h>
 #include <string.h>
+#include <sys/mman.h>
+#include <unistd.h>
 #include "tabor.h"
 
 /* ---- counting and comparing */
@@ -172,6 +176,45 @@ static size_t hex(const char *text, uint8_t *octets)
     return n;
 }
 
+/* ---- where the octets lie */
+
+/* Every answer is asked for twice: with octets in arrays of this program, and with octets and outputs that end where
+ * the memory does, so that one octet more, read or written, ends this program. */
+static uint8_t *in_end, *out_end;
+
+/* Memory for so many octets, with none behind it; the place behind the last. */
+static uint8_t *memory_end(size_t n)
+{
+    size_t page = (size_t)sysconf(_SC_PAGESIZE), whole = (n / page + 1) * page;
+    uint8_t *m = mmap(NULL, whole + page, PROT_READ | PROT_WRITE, MAP_PRIVATE | MAP_ANONYMOUS, -1, 0);
+    if (m == MAP_FAILED || mprotect(m + whole, page, PROT_NONE) != 0)
+        return NULL;
+    return m + whole;
+}
+
+static void touched(int signal)
+{
+    static const char words[] = "an octet that was not given was read or written\n";
+    (void)signal;
+    _exit(write(1, words, sizeof words - 1) > 0 ? 1 : 2);
+}
+
+static const uint8_t *given(const uint8_t *octets, size_t n)
+{
+    return in_end ? memcpy(in_end - n, octets, n) : octets;
+}
+
+static uint8_t *lent(uint8_t *out, size_t n)
+{
+    return out_end ? memcpy(out_end - n, out, n) : out;
+}
+
+static void given_back(uint8_t *out, size_t n)
+{
+    if (out_end)
+        memcpy(out, out_end - n, n);
+}
+
 /* ---- what a call tells */
 
 static void told_has(struct tabor_told got, struct tabor_record next, int sent, struct tabor_segment segment, int drawn, int refusal)
@@ -207,7 +250,9 @@ static void octets_told(int at, struct tabor_record r, uint32_t src, uint32_t ds
     if (reply)
         hex(reply, due);
     answer(at, "tabor_arrive_octets");
-    told_has(tabor_arrive_octets(r, src, dst, in, size, fresh, out, room), next, reply != NULL, segment, drawn, refusal);
+    told_has(tabor_arrive_octets(r, src, dst, given(in, size), size, fresh, lent(out, room), room), next, reply != NULL,
+             segment, drawn, refusal);
+    given_back(out, room);
     octets_are("out", out, due, sizeof out);
     ends();
 }
@@ -230,8 +275,10 @@ static void arrive_hex(int at, struct tabor_record r, uint32_t src, uint32_t dst
 
 /* ---- headers */
 
-static void reading_is(int at, struct tabor_reading got, struct tabor_header header, int refusal)
+static void reading_is(int at, uint32_t src, uint32_t dst, const uint8_t *octets, size_t size, struct tabor_header header,
+                       int refusal)
 {
+    struct tabor_reading got = tabor_read(src, dst, given(octets, size), size);
     answer(at, "tabor_read");
     is("refusal", got.refusal, (unsigned)refusal);
     header_is("header", got.header, header);
@@ -242,7 +289,7 @@ static void read_hex(int at, uint32_t src, uint32_t dst, const char *text, struc
 {
     uint8_t in[128];
     size_t size = hex(text, in);
-    reading_is(at, tabor_read(src, dst, in, size), header, refusal);
+    reading_is(at, src, dst, in, size, header, refusal);
 }
 
 static const struct tabor_header no_header;
@@ -258,7 +305,8 @@ static void write_is(int at, uint32_t src, uint32_t dst, struct tabor_header h, 
     if (text)
         hex(text, due);
     answer(at, "tabor_write");
-    is("refusal", tabor_write(src, dst, h, out, room), (unsigned)refusal);
+    is("refusal", tabor_write(src, dst, h, lent(out, room), room), (unsigned)refusal);
+    given_back(out, room);
     octets_are("out", out, due, sizeof out);
     ends();
 }
@@ -269,7 +317,7 @@ static void write_is(int at, uint32_t src, uint32_t dst, struct tabor_header h, 
 static void checksum_is(int at, uint32_t src, uint32_t dst, const uint8_t *octets, size_t size, unsigned due)
 {
     answer(at, "tabor_checksum");
-    is("checksum", tabor_checksum(src, dst, octets, size), due);
+    is("checksum", tabor_checksum(src, dst, given(octets, size), size), due);
     ends();
 }
 
@@ -324,7 +372,7 @@ static struct tabor_model start(void)
 /* Plays the list that the events before have made, and begins another. */
 static void play_is(int at, struct tabor_model m, struct tabor_model due, size_t taken, size_t refused, size_t turned, int refusal)
 {
-    struct tabor_played p = tabor_play(m, list, size);
+    struct tabor_played p = tabor_play(m, given(list, size), size);
     answer(at, "tabor_play");
     is("refusal", p.refusal, (unsigned)refusal);
     record_is("a", p.model.a, due.a);
@@ -342,7 +390,7 @@ static void play_is(int at, struct tabor_model m, struct tabor_model due, size_t
 static void step_is(int at, struct tabor_model m, struct tabor_model due, int sent, struct tabor_segment segment, int drawn,
                     int turned, int refusal)
 {
-    struct tabor_stepped p = tabor_step(m, list, size);
+    struct tabor_stepped p = tabor_step(m, given(list, size), size);
     answer(at, "tabor_step");
     is("refusal", p.refusal, (unsigned)refusal);
     record_is("a", p.model.a, due.a);
@@ -392,7 +440,8 @@ static void run_is(int at, const char *due)
     memset(output, 0xaa, sizeof output);
     memset(output_due, 0xaa, sizeof output_due);
     n_due = hex(due, output_due);
-    n = tabor_run(input, input_size, output);
+    n = tabor_run(given(input, input_size), input_size, lent(output, sizeof output));
+    given_back(output, sizeof output);
     answer(at, "tabor_run");
     is("count", n, n_due);
     octets_are("out", output, output_due, sizeof output);
@@ -759,15 +808,15 @@ static void headers(void)
     UNREAD(OFFICE, "04 00 07 d0 00 00 00 64 00 00 00 00 50 11 10 00 7f 9d 00 00", 6);
     UNREAD(OFFICE, hello, 6);
     memset(many, 0, sizeof many);
-    reading_is(__LINE__, tabor_read(OFFICE, BOX, many, 65516), no_header, 2);
-    reading_is(__LINE__, tabor_read(OFFICE, BOX, many, 65515), no_header, 3);
+    reading_is(__LINE__, OFFICE, BOX, many, 65516, no_header, 2);
+    reading_is(__LINE__, OFFICE, BOX, many, 65515, no_header, 3);
     /* the most that is read: 6, ffeb and 5000 are 14ff1, so 4ff2; there is text */
     many[12] = 0x50;
     many[16] = 0xb0;
     many[17] = 0x0d;
-    reading_is(__LINE__, tabor_read(0, 0, many, 65515), no_header, 6);
+    reading_is(__LINE__, 0, 0, many, 65515, no_header, 6);
     many[17] = 0x0c;
-    reading_is(__LINE__, tabor_read(0, 0, many, 65515), no_header, 4);
+    reading_is(__LINE__, 0, 0, many, 65515, no_header, 4);
 
     WRITES(p11, 20, SYN_100); /* P11 */
     WRITES(p11, 21, SYN_100);
@@ -1233,7 +1282,79 @@ static void single_events(void)
     UNSTEPPED(m, 255);
 }
 
-int main(void)
+/* ---- sizes whose low 8, 16 or 32 bits are small, the octets all there */
+
+static void room_is(int at, uint8_t *out, size_t room)
+{
+    struct tabor_record listening = rec(LISTEN, 1, 0, 0, 0, 0, 0);
+    uint8_t in[20], due[32];
+    hex(SYN_100, in);
+    hex(SYN_100, due);
+    memset(due + 20, 0xaa, 12);
+    memset(out, 0xaa, 32);
+    answer(at, "tabor_write");
+    is("refusal", tabor_write(OFFICE, BOX, head(1024, 2000, 100, 0, SYN, 4096), out, room), 0);
+    octets_are("out", out, due, sizeof due);
+    ends();
+    hex("07 d0 04 00 00 00 01 2c 00 00 00 65 50 12 10 00 7e 6f 00 00", due); /* P1: 8190 */
+    memset(out, 0xaa, 32);
+    answer(at, "tabor_arrive_octets");
+    told_has(tabor_arrive_octets(listening, OFFICE, BOX, in, 20, 300, out, room), rec(RECEIVED, 1, 300, 300, 301, 100, 101), 1,
+             sends(SYN | ACK, 300, 101, 4096), 1, 0);
+    octets_are("out", out, due, sizeof due);
+    ends();
+}
+
+static void sizes(void)
+{
+    const size_t above = (size_t)1 << 32, all = above + 65536;
+    struct tabor_model m = start();
+    struct tabor_stepped stepped;
+    struct tabor_played played;
+    uint8_t *octets = mmap(NULL, all, PROT_READ | PROT_WRITE, MAP_PRIVATE | MAP_ANONYMOUS | MAP_NORESERVE, -1, 0);
+    if (octets == MAP_FAILED) {
+        printf("SKIPPED: sizes above 2^32: no so large a piece of memory; ");
+        return;
+    }
+    for (size_t low = 0; low <= 20; low++) {
+        room_is(__LINE__, octets, 256 + low);
+        room_is(__LINE__, octets, 65536 + low);
+        room_is(__LINE__, octets, above + low);
+    }
+
+    hex(SYN_100, octets);
+    answer(__LINE__, "tabor_read");
+    is("refusal", tabor_read(OFFICE, BOX, octets, above + 20).refusal, 2);
+    ends();
+    REFUSES(tabor_arrive_octets(rec(LISTEN, 1, 0, 0, 0, 0, 0), OFFICE, BOX, octets, above + 20, 7, output, 20), 2,
+            rec(LISTEN, 1, 0, 0, 0, 0, 0));
+
+    /* ten octets that are an event, and 2^32 more */
+    memset(octets, 0, 20);
+    octets[0] = TABOR_EVENT_LISTEN;
+    answer(__LINE__, "tabor_step");
+    stepped = tabor_step(m, octets, above + 10);
+    is("refusal", stepped.refusal, TABOR_NO_LIST);
+    record_is("a", stepped.model.a, m.a);
+    ends();
+    answer(__LINE__, "tabor_play");
+    played = tabor_play(m, octets, above + 10);
+    is("refusal", played.refusal, TABOR_NO_LIST);
+    record_is("a", played.model.a, m.a);
+    ends();
+
+    /* the first datagram ends where the low 32 bits of the size do; the second (818e) is answered too */
+    add(IN);
+    add(IP_IN "04 00 07 d0 00 00 00 65 00 00 01 2c 50 10 10 00 7e 71 00 00");
+    memcpy(octets, input, input_size);
+    input_size = 0;
+    answer(__LINE__, "tabor_run");
+    is("count", tabor_run(octets, above + 40, output), 80);
+    ends();
+    munmap(octets, all);
+}
+
+static void ask(void)
 {
     forms();
     calls();
@@ -1243,6 +1364,19 @@ int main(void)
     single_events();
     lists();
     program();
+}
+
+int main(void)
+{
+    ask();
+    signal(SIGSEGV, touched);
+    in_end = memory_end(sizeof input);
+    out_end = memory_end(sizeof output);
+    if (in_end && out_end)
+        ask();
+    else
+        printf("SKIPPED: octets at the end of the memory: no such memory; ");
+    sizes();
     if (wrong == 0 && functions == 13) {
         printf("%u answers of %u functions agree\n", answers, functions);
         return 0;

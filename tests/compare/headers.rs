@@ -1,10 +1,10 @@
 //! Kind `headers`: a header read, a header write, a checksum.
 
 use crate::codec::{Put, Take};
-use crate::kind::{control_label, number, refusal_table, Kind, Seen, Table};
+use crate::kind::{control_label, every, refusal_table, size_table, Kind, Seen, Table};
 use crate::rng::Rng;
 use crate::tabor::{self, Header, Reading};
-use crate::{map, words};
+use crate::{map, sizes, words};
 use paper::Paper;
 
 #[derive(Clone)]
@@ -46,15 +46,16 @@ const LONG: usize = 3;
 const CONTROLS: usize = 4;
 const OCTET_12: usize = 5;
 const OUTPUTS: usize = 6;
-const SPECIAL: usize = 7;
+const SUMMED: usize = 7;
+const SPECIAL: usize = 8;
+const FUNCTIONS: usize = 9;
 
-const SPECIALS: [&str; 6] = [
+const SPECIALS: [&str; 5] = [
     "checksum 0 accepted",
     "checksum 65,535 accepted",
     "options skipped",
     "odd length, checksum right",
     "checksum 0 written",
-    "checksum calls",
 ];
 
 pub struct Headers;
@@ -64,12 +65,14 @@ impl Kind for Headers {
     const UNIT: &'static str = "calls";
     type Case = Case;
     type Answer = Answer;
+    type Ground = ();
+    const SHARED: u64 = 64;
 
     fn tables() -> Vec<Table> {
         vec![
             refusal_table("reads", &[0, 2, 3, 4, 6]),
             refusal_table("writes", &[0, 6, 10]),
-            Table::new("lengths read", 65, (0..65).collect(), number),
+            size_table("lengths read, checksum right"),
             Table::new("long lengths read", 8, (0..8).collect(), |v| {
                 (MOST - 3 + v).to_string()
             }),
@@ -85,18 +88,26 @@ impl Kind for Headers {
                 (0..256).collect(),
                 control_label,
             ),
-            Table::new("output lengths written", 65, (0..65).collect(), number),
-            Table::new("special", SPECIALS.len(), (0..SPECIALS.len()).collect(), |v| {
+            size_table("output lengths, FIN off"),
+            Table::new("lengths of checksums", sizes::NUMBERS, summed(), |v| {
+                sizes::of_number(v).to_string()
+            }),
+            Table::new("special", SPECIALS.len(), every(SPECIALS.len()), |v| {
                 SPECIALS[v].to_string()
+            }),
+            Table::new("functions", 3, every(3), |v| {
+                ["read", "write", "checksum"][v].to_string()
             }),
         ]
     }
 
-    fn make(rng: &mut Rng, index: u64) -> Case {
+    fn ground(_: &mut Rng, _: u64) {}
+
+    fn make(rng: &mut Rng, _: &(), index: u64) -> Case {
         // what is gone through completely walks with `turn`
         let turn = (index / 16) as usize;
         match index % 16 {
-            0 => read_of_length(rng, turn % 65),
+            0 => read_of_length(rng, sizes::in_turn(turn, 512)),
             1 => read_control(rng, turn as u8),
             2 => read_octet_12(rng, turn as u8),
             3 => damaged_bit(rng),
@@ -106,10 +117,10 @@ impl Kind for Headers {
             7 => sum_65535(rng),
             8 => read_random(rng),
             9 => words_exchanged(rng),
-            10 | 11 => write(rng, turn % 65),
+            10 => write(rng, turn % 65),
+            11 => write(rng, sizes::in_turn(turn, 128)),
             12 => write_edge(rng, turn),
-            13 => checksum(rng, turn),
-            14 => plain(rng),
+            13 | 14 => checksum(rng, turn),
             _ if turn % 64 == 0 => long(rng, turn / 64),
             _ => plain(rng),
         }
@@ -136,6 +147,7 @@ impl Kind for Headers {
         seen.units += 1;
         match case {
             Case::Read { src, dst, octets } => {
+                seen.mark(FUNCTIONS, 0);
                 let reading = match paper::read_header(paper, *src, *dst, octets) {
                     Ok(h) => Reading {
                         header: map::header_back(&h),
@@ -155,18 +167,22 @@ impl Kind for Headers {
                 header,
                 out,
             } => {
+                seen.mark(FUNCTIONS, 1);
                 let mut out = out.clone();
                 let written = paper::write_header(paper, *src, *dst, map::header(header), &mut out);
                 let refusal = written.err().unwrap_or(0);
                 seen.mark(WRITES, refusal as usize);
-                seen.mark(OUTPUTS, out.len());
+                if refusal != 6 {
+                    seen.mark(OUTPUTS, sizes::number(out.len()));
+                }
                 if refusal == 0 && out[16..18] == [0, 0] {
                     seen.mark(SPECIAL, 4);
                 }
                 Answer::Write(refusal, out)
             }
             Case::Checksum { src, dst, octets } => {
-                seen.mark(SPECIAL, 5);
+                seen.mark(FUNCTIONS, 2);
+                seen.mark(SUMMED, sizes::number(octets.len()));
                 Answer::Checksum(checksum_as_they_are(*src, *dst, octets))
             }
         }
@@ -288,9 +304,18 @@ fn checksum_as_they_are(src: u32, dst: u32, octets: &[u8]) -> u16 {
     }
 }
 
+/// A checksum is compared for lengths of one 16-bit word.
+fn summed() -> Vec<usize> {
+    (0..sizes::NUMBERS)
+        .filter(|v| sizes::of_number(*v) <= 65_535)
+        .collect()
+}
+
 fn note_read(octets: &[u8], reading: &Reading, seen: &mut Seen) {
     seen.mark(READS, reading.refusal as usize);
-    seen.mark(LENGTHS, octets.len());
+    if reading.refusal != 4 {
+        seen.mark(LENGTHS, sizes::number(octets.len()));
+    }
     seen.mark(LONG, octets.len().wrapping_sub(MOST - 3));
     if octets.len() < 20 {
         return;
@@ -380,7 +405,7 @@ fn read_of_length(rng: &mut Rng, length: usize) -> Case {
     let words = rng.between(5, (length / 4).clamp(5, 15));
     let octet_12 = (words as u8) << 4 | reserved(rng);
     let mut octets = bare(&header_without_fin(rng), octet_12);
-    octets.extend(rng.octets(64));
+    octets.extend(rng.octets(length));
     octets.truncate(length);
     sealed(rng, octets)
 }
@@ -548,7 +573,7 @@ fn write_edge(rng: &mut Rng, turn: usize) -> Case {
 }
 
 fn checksum(rng: &mut Rng, turn: usize) -> Case {
-    let mut octets = rng.octets(turn % 70);
+    let mut octets = rng.octets(sizes::in_turn(turn, 512).min(65_535));
     match rng.below(4) {
         0 => octets.fill(0xff),
         1 => octets.fill(0),
@@ -597,6 +622,10 @@ fn long(rng: &mut Rng, turn: usize) -> Case {
 
 type Addressed = (u32, u32, Vec<u8>);
 
+/// So many octets are made small one by one; those behind all together, since
+/// there may be 65,536 of them.
+const LOOKED_AT: usize = 80;
+
 /// Fewer octets and more zeroes, each once as it is and once with the
 /// checksum made right again, because most differences need a right one.
 pub fn smaller_octets(src: u32, dst: u32, octets: &[u8]) -> impl Iterator<Item = Addressed> + '_ {
@@ -613,14 +642,20 @@ pub fn smaller_octets(src: u32, dst: u32, octets: &[u8]) -> impl Iterator<Item =
     });
     let no_src = std::iter::once((0, dst, octets.to_vec()));
     let no_dst = std::iter::once((src, 0, octets.to_vec()));
-    let zeroed = (0..n)
+    let rest = (n > LOOKED_AT).then(|| {
+        let mut o = octets.to_vec();
+        o[LOOKED_AT..].fill(0);
+        (src, dst, o)
+    });
+    let zeroed = (0..n.min(LOOKED_AT))
         .filter(|i| octets[*i] != 0)
         .map(move |i| (src, dst, with(octets, i, 0)));
-    let low = (0..n)
+    let low = (0..n.min(LOOKED_AT))
         .filter(|i| octets[*i] > 1)
         .map(move |i| (src, dst, with(octets, i, octets[i] / 2)));
     let all = cut
         .chain(no_options)
+        .chain(rest)
         .chain(no_src)
         .chain(no_dst)
         .chain(zeroed)
@@ -647,7 +682,11 @@ fn plus(a: u16, b: u16) -> u16 {
 /// One word or address made zero, its value added to the window: the sum
 /// stays as it is, which the cases around 65,535 need.
 fn same_sum(src: u32, dst: u32, octets: &[u8]) -> impl Iterator<Item = Addressed> + '_ {
-    let words = if octets.len() >= 20 { octets.len() / 2 } else { 0 };
+    let words = if octets.len() >= 20 {
+        octets.len().min(LOOKED_AT) / 2
+    } else {
+        0
+    };
     let moved = move |value: u16, src: u32, dst: u32, mut o: Vec<u8>| {
         let window = plus(u16::from_be_bytes([o[14], o[15]]), value);
         o[14..16].copy_from_slice(&window.to_be_bytes());
@@ -731,7 +770,17 @@ fn smaller_write(src: u32, dst: u32, header: Header, out: &[u8]) -> Vec<Case> {
             out: out.to_vec(),
         });
     }
-    for i in (0..n).filter(|i| out[*i] > 1) {
+    if n > LOOKED_AT {
+        let mut out = out.to_vec();
+        out[LOOKED_AT..].fill(1);
+        cases.push(Case::Write {
+            src,
+            dst,
+            header,
+            out,
+        });
+    }
+    for i in (0..n.min(LOOKED_AT)).filter(|i| out[*i] > 1) {
         cases.push(Case::Write {
             src,
             dst,

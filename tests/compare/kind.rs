@@ -1,8 +1,10 @@
 //! What a kind of comparison has to bring, and what a run of it has seen.
 
 use crate::rng::Rng;
+use crate::sizes;
 use crate::words::thousands;
 use paper::Paper;
+use std::ops::Range;
 
 /// One kind of comparison. A case is one call; its whole answer is compared.
 pub trait Kind {
@@ -11,11 +13,17 @@ pub trait Kind {
     const UNIT: &'static str;
     type Case: Clone + Send;
     type Answer: PartialEq;
+    /// What the next `SHARED` cases are made on. A model costs more to make
+    /// than to try, so several events are tried on each.
+    type Ground;
+    const SHARED: u64;
 
     fn tables() -> Vec<Table>;
+    /// Ground number `number`, that of the cases `number * SHARED` and on.
+    fn ground(rng: &mut Rng, number: u64) -> Self::Ground;
     /// Case number `index`: what must be gone through completely is taken
     /// from the index, the rest from chance.
-    fn make(rng: &mut Rng, index: u64) -> Self::Case;
+    fn make(rng: &mut Rng, ground: &Self::Ground, index: u64) -> Self::Case;
     /// What the proved library answers.
     fn library(case: &Self::Case) -> Self::Answer;
     /// What the independent program answers. It also notes what was reached.
@@ -135,6 +143,11 @@ pub fn number(n: usize) -> String {
     n.to_string()
 }
 
+/// All values of a table must be reached.
+pub fn every(n: usize) -> Vec<usize> {
+    (0..n).collect()
+}
+
 // ---- tables that several kinds have
 
 pub const SENT: [&str; 6] = ["none", "SYN", "SYN,ACK", "ACK", "RST", "RST,ACK"];
@@ -205,4 +218,44 @@ pub fn refusal_table(name: &'static str, must: &[usize]) -> Table {
 
 pub fn control_label(v: usize) -> String {
     format!("{v:02x}")
+}
+
+/// Sizes of octets read or of room to write to: all of `sizes`.
+pub fn size_table(name: &'static str) -> Table {
+    Table::new(name, sizes::NUMBERS, every(sizes::NUMBERS), |v| {
+        thousands(sizes::of_number(v) as u64)
+    })
+}
+
+/// Places in a `bit_table` for each of its numbers.
+const BITS: usize = 64;
+
+/// Bits of some numbers; of each number these bits must be reached.
+pub fn bit_table(name: &'static str, bits: &[Range<usize>], label: fn(usize) -> String) -> Table {
+    let of =
+        |(i, bits): (usize, &Range<usize>)| bits.clone().map(move |bit| i * BITS + bit).collect::<Vec<_>>();
+    let must = bits.iter().enumerate().flat_map(of).collect();
+    Table::new(name, bits.len() * BITS, must, label)
+}
+
+/// "what, bit 7": for the labels of a `bit_table`.
+pub fn bit_label(names: &[&str], v: usize) -> String {
+    format!("{}, bit {}", names[v / BITS], v % BITS)
+}
+
+/// Every bit that is on in the number `which` of a `bit_table`.
+pub fn mark_bits(seen: &mut Seen, table: usize, which: usize, bits: u64) {
+    (0..BITS)
+        .filter(|bit| bits >> bit & 1 == 1)
+        .for_each(|bit| seen.mark(table, which * BITS + bit));
+}
+
+/// Of some numbers one alone has one bit on: the differences of what must
+/// be the same, say.
+pub fn mark_one_bit(seen: &mut Seen, table: usize, numbers: &[u32]) {
+    if numbers.iter().map(|n| n.count_ones()).sum::<u32>() == 1 {
+        for (which, n) in numbers.iter().enumerate() {
+            mark_bits(seen, table, which, *n as u64);
+        }
+    }
 }

@@ -1,8 +1,8 @@
 //! Kind `lists`: two stations, their links, and a list of events.
 
 use crate::codec::{Put, Take};
-use crate::kind::{number, pair, pair_table, refusal_table, sent_number, sent_table};
-use crate::kind::{Kind, Seen, Table, ALL_PAIRS};
+use crate::kind::{bit_label, bit_table, every, mark_bits, number, pair, pair_table, refusal_table};
+use crate::kind::{sent_number, sent_table, Kind, Seen, Table, ALL_PAIRS};
 use crate::rng::Rng;
 use crate::stations::{any_record, any_segment, spoil};
 use crate::tabor::{self, Link, Model, Played, Record, Segment};
@@ -22,14 +22,19 @@ pub const SIZE: usize = 10;
 pub const NO_LIST: u8 = 255;
 const SLOTS: usize = 32;
 
-// the tables, by their place
-const WHOLE: usize = 0;
-const EVENTS: usize = 1;
-const STEPS: usize = 2;
-const SENT: usize = 3;
-const KINDS: usize = 4;
-const SIZES: usize = 5;
-const SPECIAL: usize = 6;
+// the tables, by their place; those of events are also the first of `shorts`
+const EVENTS: usize = 0;
+const STEPS: usize = 1;
+const SENT: usize = 2;
+const KINDS: usize = 3;
+const PLACES: usize = 4;
+const DRAWN: usize = 5;
+const MOMENTS: usize = 6;
+pub const EVENT_TABLES: usize = 7;
+const WHOLE: usize = 7;
+const SIZES: usize = 8;
+const SPECIAL: usize = 9;
+const TOTALS: usize = 10;
 
 const KIND_NAMES: [&str; 8] = [
     "open",
@@ -41,16 +46,53 @@ const KIND_NAMES: [&str; 8] = [
     "copy",
     "lose",
 ];
-const LENGTHS: [usize; 5] = [0, 1, 4095, 4096, 4097];
-const SPECIALS: [&str; 7] = [
-    "segments turned away",
-    "moments with both established",
-    "moments with a full link",
+const LINK_EVENTS: [&str; 3] = ["deliver", "copy", "lose"];
+const DRAWERS: [&str; 2] = ["open", "deliver"];
+const MOMENT_NAMES: [&str; 3] = ["a segment turned away", "both established", "a full link"];
+/// Every length up to the limit and one more is played, or refused with 12.
+const LENGTHS: usize = 4098;
+/// Lists longer than this come by turns, shorter ones also by chance.
+const SHORTER: usize = 140;
+const SPECIALS: [&str; 5] = [
     "255 with a faulty model",
     "1 with more than 4,096 events",
     "slots past the count not zero at the end",
     "255 with more than 4,096 events",
+    "12 for 32,768 events and more",
 ];
+
+/// What events reach, played or offered alone.
+pub fn event_tables() -> Vec<Table> {
+    vec![
+        refusal_table("events", &[0, 5, 6, 7, 8, 9, 11]),
+        pair_table(&ALL_PAIRS),
+        sent_table(&[0, 1, 2, 3, 4, 5]),
+        Table::new("kinds of event taken", 8, every(8), |v| KIND_NAMES[v].to_string()),
+        place_table(),
+        drawn_table(),
+        Table::new(
+            "moments with",
+            MOMENT_NAMES.len(),
+            every(MOMENT_NAMES.len()),
+            |v| MOMENT_NAMES[v].to_string(),
+        ),
+    ]
+}
+
+/// Places that are not on the link, though cut to fewer bits they are.
+pub fn place_table() -> Table {
+    bit_table(
+        "no such place, but one if cut below a bit",
+        &[5..32, 5..32, 5..32],
+        |v| bit_label(&LINK_EVENTS, v),
+    )
+}
+
+pub fn drawn_table() -> Table {
+    bit_table("bits on in numbers drawn", &[0..32, 0..32], |v| {
+        bit_label(&DRAWERS, v)
+    })
+}
 
 pub struct Lists;
 
@@ -59,29 +101,47 @@ impl Kind for Lists {
     const UNIT: &'static str = "played events";
     type Case = Case;
     type Answer = Played;
+    type Ground = ();
+    const SHARED: u64 = 4;
 
     fn tables() -> Vec<Table> {
-        vec![
+        let mut tables = event_tables();
+        tables.extend([
             refusal_table("lists", &[0, 1, 12, 255]),
-            refusal_table("events", &[0, 5, 6, 7, 8, 9, 11]),
-            pair_table(&ALL_PAIRS),
-            sent_table(&[0, 1, 2, 3, 4, 5]),
-            Table::new("kinds of event taken", 8, (0..8).collect(), |v| {
-                KIND_NAMES[v].to_string()
-            }),
-            Table::new("list lengths", 4098, LENGTHS.to_vec(), number),
-            Table::new("special", SPECIALS.len(), (0..SPECIALS.len()).collect(), |v| {
+            Table::new("list lengths", LENGTHS, every(LENGTHS), number),
+            Table::new("special", SPECIALS.len(), every(SPECIALS.len()), |v| {
                 SPECIALS[v].to_string()
             }),
-        ]
+            bit_table("bits on in totals", &[0..13, 0..13, 0..13], |v| {
+                bit_label(&["taken", "refused", "turned away"], v)
+            }),
+        ]);
+        tables
     }
 
-    fn make(rng: &mut Rng, index: u64) -> Case {
-        let length = list_length(rng, index as usize);
-        let model = starting_model(rng, index as usize);
-        let mut events = aimed_events(rng, &model, length);
+    fn ground(_: &mut Rng, _: u64) {}
+
+    fn make(rng: &mut Rng, _: &(), index: u64) -> Case {
+        if index % 50 == 11 {
+            let model = sound_model(rng);
+            let longer = index as usize / 50 % (4094 - SHORTER);
+            let events = aimed_events(rng, &model, SHORTER + 1 + longer);
+            return Case { model, events };
+        }
+        let turn = index % 400;
+        let length = list_length(rng, index);
+        let mut model = starting_model(rng);
+        // the lists above the limit are also tried on faulty models: 1 before 12
+        if turn == 3 && rng.one_in(2) {
+            spoil_model(rng, &mut model);
+        }
+        let mut events = if turn < 2 && rng.one_in(4) {
+            again_and_again(rng, &mut model, length)
+        } else {
+            aimed_events(rng, &model, length)
+        };
         // the lists above the limit too, and behind it: 255 comes before 12
-        if rng.one_in(16) || (index % 400 == 2 && rng.one_in(3)) {
+        if rng.one_in(16) || (turn == 2 && rng.one_in(3)) {
             make_no_list(rng, &mut events);
         }
         Case { model, events }
@@ -249,7 +309,7 @@ fn refused(case: &Case, refusal: u8) -> Played {
     }
 }
 
-fn independent(paper: &Paper, case: &Case, seen: &mut Seen) -> Played {
+pub fn independent(paper: &Paper, case: &Case, seen: &mut Seen) -> Played {
     // the boundary: no list is 255, before everything else
     let Some(events) = decode(&case.events) else {
         return refused(case, NO_LIST);
@@ -333,11 +393,12 @@ fn follow(
     let mut tails = [Tail::new(&case.model.toa), Tail::new(&case.model.tob)];
     for event in events {
         let (toa, tob) = (now.toa.count, now.tob.count);
-        let states = (now.a.state, now.b.state);
+        let side = side_of(event);
+        let (state, count) = (now.station(side).state, now.link_to(side).count);
         let told = paper::step(paper, &mut now, *event);
         tails[0].follow(toa, now.toa.count);
         tails[1].follow(tob, now.tob.count);
-        note_event(event, states, &told, &now, seen);
+        note_event(event, state, count, &told, &now, seen);
     }
     assert!(
         now == *end,
@@ -353,39 +414,64 @@ pub fn side_of(event: &Event) -> Side {
     }
 }
 
+/// `state` and `count` are those of the event's station and of the link to
+/// it, before the event.
 fn note_event(
     event: &Event,
-    before: (State, State),
+    state: State,
+    count: u64,
     told: &Result<paper::Told, u8>,
     now: &paper::Model,
     seen: &mut Seen,
 ) {
     seen.units += 1;
     let told = match told {
-        Err(refusal) => return seen.mark(EVENTS, *refusal as usize),
+        Err(refusal) => {
+            seen.mark(EVENTS, *refusal as usize);
+            return note_place(event, count, *refusal, seen, PLACES);
+        }
         Ok(told) => told,
     };
     seen.mark(EVENTS, 0);
     let kind = encode(event, 0)[0] as usize;
     seen.mark(KINDS, kind);
     if kind < 6 {
-        let from = if side_of(event) == Side::A {
-            before.0
-        } else {
-            before.1
-        };
         let to = now.station(side_of(event)).state;
-        seen.mark(STEPS, pair(from.number(), to.number()));
+        seen.mark(STEPS, pair(state.number(), to.number()));
         seen.mark(SENT, sent_number(told.sent.map(|g| g.header.control)));
     }
+    note_drawn(event, told.drawn, seen, DRAWN);
     if told.turned {
-        seen.mark(SPECIAL, 0);
+        seen.mark(MOMENTS, 0);
     }
     if now.a.state == State::Established && now.b.state == State::Established {
-        seen.mark(SPECIAL, 1);
+        seen.mark(MOMENTS, 1);
     }
     if now.toa.count == SLOTS as u64 || now.tob.count == SLOTS as u64 {
-        seen.mark(SPECIAL, 2);
+        seen.mark(MOMENTS, 2);
+    }
+}
+
+/// A place refused with 9 that would be one of the link's if its bits from
+/// some bit on were not looked at: marked for each such bit.
+pub fn note_place(event: &Event, count: u64, refusal: u8, seen: &mut Seen, table: usize) {
+    let (which, place) = match *event {
+        Event::Deliver(_, place, _) => (0, place),
+        Event::Copy(_, place) => (1, place),
+        Event::Lose(_, place) => (2, place),
+        _ => return,
+    };
+    if refusal == 9 {
+        let cut = (5..32).filter(|bit| place & ((1 << bit) - 1) < count);
+        mark_bits(seen, table, which, cut.map(|bit| 1 << bit).sum());
+    }
+}
+
+pub fn note_drawn(event: &Event, drawn: bool, seen: &mut Seen, table: usize) {
+    match *event {
+        Event::Open(_, n) if drawn => mark_bits(seen, table, 0, n as u64),
+        Event::Deliver(_, _, n) if drawn => mark_bits(seen, table, 1, n as u64),
+        _ => {}
     }
 }
 
@@ -400,12 +486,8 @@ pub fn faulty(m: &Model) -> bool {
 fn note_list(case: &Case, played: &Played, seen: &mut Seen) {
     let events = case.events.len() / SIZE;
     seen.mark(WHOLE, played.refusal as usize);
-    seen.mark(SIZES, events);
-    if played.refusal == NO_LIST && faulty(&case.model) {
-        seen.mark(SPECIAL, 3);
-    }
-    if played.refusal == 1 && events > 4096 {
-        seen.mark(SPECIAL, 4);
+    if [0, 12].contains(&played.refusal) {
+        seen.mark(SIZES, events);
     }
     let m = &played.model;
     let past = |link: &Link| {
@@ -414,18 +496,33 @@ fn note_list(case: &Case, played: &Played, seen: &mut Seen) {
             .skip(link.count)
             .any(|g| *g != Segment::default())
     };
-    if played.refusal == 0 && (past(&m.toa) || past(&m.tob)) {
-        seen.mark(SPECIAL, 5);
+    let (taken, no_list) = (played.refusal == 0, played.refusal == NO_LIST);
+    let special = [
+        no_list && faulty(&case.model),
+        played.refusal == 1 && events > 4096,
+        taken && (past(&m.toa) || past(&m.tob)),
+        no_list && events > 4096,
+        played.refusal == 12 && events >= 32_768,
+    ];
+    for (v, _) in special.iter().enumerate().filter(|(_, reached)| **reached) {
+        seen.mark(SPECIAL, v);
     }
-    if played.refusal == NO_LIST && events > 4096 {
-        seen.mark(SPECIAL, 6);
+    for (which, total) in [played.taken, played.refused, played.turned]
+        .into_iter()
+        .enumerate()
+    {
+        mark_bits(seen, TOTALS, which, total as u64);
     }
 }
 
 // ---- making cases
 
 /// Mostly short lists; the limits, and more than them, come round by turns.
-fn list_length(rng: &mut Rng, index: usize) -> usize {
+/// 32,768 events are 5 times 65,536 octets, and 65,536 events 10 times.
+fn list_length(rng: &mut Rng, index: u64) -> usize {
+    if index % 20_000 == 6 {
+        return rng.pick(&[32_768, 32_769, 65_536, 65_537, 65_600]);
+    }
     match index % 400 {
         0 => 4095,
         1 => 4096,
@@ -433,11 +530,19 @@ fn list_length(rng: &mut Rng, index: usize) -> usize {
         3 => rng.pick(&[4098, 5000, 6553, 8192]),
         4 => 0,
         5..=60 => 1,
-        _ => rng.between(1, 140),
+        _ => rng.between(1, SHORTER),
     }
 }
 
-pub fn starting_model(rng: &mut Rng, index: usize) -> Model {
+pub fn starting_model(rng: &mut Rng) -> Model {
+    let mut m = sound_model(rng);
+    if rng.one_in(12) {
+        spoil_model(rng, &mut m);
+    }
+    m
+}
+
+fn sound_model(rng: &mut Rng) -> Model {
     let mut m = Model::default();
     let (a, b) = match rng.below(3) {
         0 => (0, 0),
@@ -449,22 +554,23 @@ pub fn starting_model(rng: &mut Rng, index: usize) -> Model {
     if rng.one_in(2) {
         agree(&mut m);
     }
-    m.toa = any_link(rng, &m.a);
-    m.tob = any_link(rng, &m.b);
-    // the lists above the limit are also tried on faulty models: 1 before 12
-    if rng.one_in(12) || (index % 400 == 3 && rng.one_in(2)) {
-        spoil_model(rng, &mut m);
-    }
+    let counts = [any_count(rng), any_count(rng)];
+    fill_links(rng, &mut m, counts);
     m
 }
 
-fn mirror(m: &mut Model) {
+fn any_count(rng: &mut Rng) -> usize {
+    let some = rng.between(0, SLOTS);
+    rng.pick(&[0, 0, 0, 1, 3, some, 30, 31, 32])
+}
+
+pub fn mirror(m: &mut Model) {
     (m.b.own, m.b.ownport) = (m.a.peer, m.a.peerport);
     (m.b.peer, m.b.peerport) = (m.a.own, m.a.ownport);
 }
 
 /// Where both have received something, each holds the other's number.
-fn agree(m: &mut Model) {
+pub fn agree(m: &mut Model) {
     if m.a.state >= 2 && m.b.state >= 3 {
         m.b.irs = m.a.iss;
         m.b.rcvnxt = m.b.irs.wrapping_add(1);
@@ -475,11 +581,18 @@ fn agree(m: &mut Model) {
     }
 }
 
+/// So many segments on the link to A and on the link to B.
+pub fn fill_links(rng: &mut Rng, m: &mut Model, counts: [usize; 2]) {
+    m.toa = any_link(rng, &m.a, counts[0]);
+    m.tob = any_link(rng, &m.b, counts[1]);
+}
+
 /// Segments aimed at the receiver; some of them are foreign, have FIN or text.
-fn any_link(rng: &mut Rng, receiver: &Record) -> Link {
-    let mut link = Link::default();
-    let some = rng.between(0, SLOTS);
-    link.count = rng.pick(&[0, 0, 0, 1, 3, some, 30, 31, 32]);
+fn any_link(rng: &mut Rng, receiver: &Record, count: usize) -> Link {
+    let mut link = Link {
+        count,
+        ..Link::default()
+    };
     let garbage = rng.one_in(2);
     for i in 0..SLOTS {
         if i < link.count || garbage {
@@ -492,19 +605,29 @@ fn any_link(rng: &mut Rng, receiver: &Record) -> Link {
 
 fn spoil_model(rng: &mut Rng, m: &mut Model) {
     let turn = rng.below(64);
-    let count = rng.pick(&[33, 34, 64, 1 << 32, usize::MAX]);
-    match rng.below(12) {
+    let (wide, narrow) = (1 << rng.below(32), 1 << rng.below(16));
+    match rng.below(14) {
         0 | 1 => spoil(rng, &mut m.a, turn),
         2 | 3 => spoil(rng, &mut m.b, turn),
-        4 => m.toa.count = count,
-        5 => m.tob.count = count,
-        6 => m.a.own ^= 1 << rng.below(32),
-        7 => m.a.peer ^= 1 << rng.below(32),
-        8 => m.b.ownport ^= 1 << rng.below(16),
-        9 => m.b.peerport ^= 1 << rng.below(16),
-        10 => std::mem::swap(&mut m.a.own, &mut m.a.peer),
+        4 => m.toa.count = too_many(rng),
+        5 => m.tob.count = too_many(rng),
+        6 => m.a.own ^= wide,
+        7 => m.a.peer ^= wide,
+        8 => m.a.ownport ^= narrow,
+        9 => m.a.peerport ^= narrow,
+        10 => m.b.own ^= wide,
+        11 => m.b.peer ^= wide,
+        12 => std::mem::swap(&mut m.a.own, &mut m.a.peer),
         _ => std::mem::swap(&mut m.b.ownport, &mut m.b.peerport),
     }
+}
+
+/// A count above 32; cut to fewer bits, most would be counts.
+fn too_many(rng: &mut Rng) -> usize {
+    if rng.one_in(4) {
+        return rng.pick(&[33, 34, 63, usize::MAX]);
+    }
+    rng.between(0, SLOTS) + (1 << rng.between(6, 63))
 }
 
 /// Weights of the eight kinds, and of an event that drives the opening on;
@@ -533,10 +656,36 @@ pub fn aimed_events(rng: &mut Rng, model: &Model, length: usize) -> Vec<u8> {
             // on a faulty model every event is refused; that is as good
             let _ = paper::step(&Paper::RIGHT, m, event);
         }
-        let unused = if rng.one_in(2) { 0 } else { rng.number() };
-        octets.extend(encode(&event, unused));
+        octets.extend(encode(&event, unused(rng)));
     }
     octets
+}
+
+/// One event all the time: all are taken and turned away, all taken, or all
+/// refused.
+fn again_and_again(rng: &mut Rng, m: &mut Model, length: usize) -> Vec<u8> {
+    let s = any_side(rng);
+    let event = match rng.below(3) {
+        0 => {
+            m.a = any_record(rng, 2);
+            m.b = any_record(rng, 3);
+            mirror(m);
+            fill_links(rng, m, [SLOTS, SLOTS]);
+            Event::Resend(s)
+        }
+        1 => Event::PowerCut(s),
+        _ => Event::Copy(s, SLOTS as u64),
+    };
+    encode(&event, unused(rng)).repeat(length)
+}
+
+/// What lies where a kind of event does not look.
+pub fn unused(rng: &mut Rng) -> u32 {
+    if rng.one_in(2) {
+        0
+    } else {
+        rng.number()
+    }
 }
 
 fn any_event_octets(rng: &mut Rng) -> [u8; SIZE] {
@@ -552,6 +701,9 @@ fn any_side(rng: &mut Rng) -> Side {
 
 /// Mostly a place that is there, mostly the last or the first.
 fn any_place(rng: &mut Rng, count: u64) -> u64 {
+    if rng.one_in(8) {
+        return high_place(rng, count);
+    }
     if count == 0 || rng.one_in(12) {
         return rng.pick(&[count, count + 1, 31, 32, 33, 0x7fff_ffff, 0xffff_ffff]);
     }
@@ -562,15 +714,19 @@ fn any_place(rng: &mut Rng, count: u64) -> u64 {
     }
 }
 
-fn aimed_event(rng: &mut Rng, m: &paper::Model, manner: &[usize; 9]) -> Event {
-    let s = any_side(rng);
-    let count = m.link_to(s).count;
-    let mut chance = rng.below(manner.iter().sum());
-    let mut kind = 0;
-    while chance >= manner[kind] {
-        chance -= manner[kind];
-        kind += 1;
-    }
+/// A place that is there (0 where there is none) with bits on above its own:
+/// of 32 bits, no place of the link; of fewer, perhaps one.
+pub fn high_place(rng: &mut Rng, count: u64) -> u64 {
+    let low = rng.below(count.max(1) as usize) as u64;
+    let any = rng.between(5, 31);
+    let bit = rng.pick(&[8, 16, 24, 31, any, any, any, any]);
+    let more = if rng.one_in(2) { 0 } else { rng.next() as u32 };
+    low + (((1 | more) << bit) as u64)
+}
+
+/// An event of this kind at this side, the link to which holds so many.
+pub fn any_event(rng: &mut Rng, kind: usize, s: Side, count: u64) -> Event {
+    let count = count.min(SLOTS as u64);
     match kind {
         0 => Event::Open(s, rng.number()),
         1 => Event::Listen(s),
@@ -579,8 +735,21 @@ fn aimed_event(rng: &mut Rng, m: &paper::Model, manner: &[usize; 9]) -> Event {
         4 => Event::PowerCut(s),
         5 => Event::Deliver(s, any_place(rng, count), rng.number()),
         6 => Event::Copy(s, any_place(rng, count)),
-        7 => Event::Lose(s, any_place(rng, count)),
-        _ => onward(rng, m, s),
+        _ => Event::Lose(s, any_place(rng, count)),
+    }
+}
+
+fn aimed_event(rng: &mut Rng, m: &paper::Model, manner: &[usize; 9]) -> Event {
+    let s = any_side(rng);
+    let mut chance = rng.below(manner.iter().sum());
+    let mut kind = 0;
+    while chance >= manner[kind] {
+        chance -= manner[kind];
+        kind += 1;
+    }
+    match kind {
+        8 => onward(rng, m, s),
+        _ => any_event(rng, kind, s, m.link_to(s).count),
     }
 }
 

@@ -13,6 +13,8 @@ mod map;
 mod programs;
 mod rng;
 mod run;
+mod shorts;
+mod sizes;
 mod stations;
 mod steps;
 mod walk;
@@ -20,7 +22,7 @@ mod words;
 
 use kind::Seen;
 use paper::{Paper, Wrong};
-use run::{Found, Outcome, Runner, RUNNERS};
+use run::{Found, Outcome, Runner, KINDS, RUNNERS};
 use std::io::{IsTerminal, Write};
 use std::process::exit;
 use std::time::{Duration, Instant};
@@ -30,7 +32,7 @@ const USAGE: &str = "compare: the proved library beside the independent program
 
   --tests                     every kind, a million and more of each, coverage demanded
   --long SECONDS              every kind, for as long as told
-  --kind K --count N          one kind: headers, stations, steps, lists, programs
+  --kind K --count N          one kind: headers, stations, steps, shorts, lists, programs
   --wrong NAME                the independent side made wrong in one rule: must be found
   --wrongs                    all wrong versions, one after the other
   --walk [--count HISTORIES]  demand 3 by walking
@@ -43,11 +45,21 @@ const USAGE: &str = "compare: the proved library beside the independent program
 const SEED: u64 = 9293;
 
 /// Cases of each kind in `--tests`.
-const COUNTS: [u64; 5] = [20_000_000, 20_000_000, 2_000_000, 200_000, 200_000];
+const COUNTS: [u64; KINDS] = [
+    40 * MILLION,
+    40 * MILLION,
+    16 * MILLION,
+    shorts::WHOLE,
+    200_000,
+    200_000,
+];
 /// Every kind must reach this many calls, events or datagrams in `--tests`.
 const MILLION: u64 = 1_000_000;
+/// And so many comparisons, where a fault that one call in a million shows must
+/// be found: n comparisons miss it with a chance of e^(-n / 1,000,000).
+const ENOUGH: [u64; KINDS] = [8 * MILLION, 8 * MILLION, 8 * MILLION, 8 * MILLION, 0, 0];
 /// Cases of each kind at a time where the kinds take turns.
-const TURNS: [u64; 5] = [20_000, 20_000, 4_000, 400, 420];
+const TURNS: [u64; KINDS] = [20_000, 20_000, 4_000, 4_000, 400, 430];
 
 const SHRINKING: Duration = Duration::from_secs(20);
 const SHRINKING_WRONG: Duration = Duration::from_secs(2);
@@ -229,11 +241,14 @@ fn tests(seed: u64) -> bool {
     println!("seed {seed}");
     let begin = Instant::now();
     let mut good = true;
-    for (runner, count) in RUNNERS.iter().zip(COUNTS) {
+    for (runner, (count, enough)) in RUNNERS.iter().zip(COUNTS.into_iter().zip(ENOUGH)) {
         let outcome = (runner.run)(&Paper::RIGHT, seed, 0, count, SHRINKING);
         let mut faults = outcome.seen.missing();
         if outcome.seen.units < MILLION {
             faults.push(format!("fewer than {} {}", thousands(MILLION), runner.unit));
+        }
+        if outcome.comparisons < enough {
+            faults.push(format!("fewer than {} comparisons", thousands(enough)));
         }
         good &= told(runner, &outcome) && faults.is_empty();
         for fault in faults {
@@ -263,7 +278,7 @@ fn long(seconds: u64, seed: u64) -> bool {
     println!("seed {seed}");
     let (begin, end) = (Instant::now(), Instant::now() + Duration::from_secs(seconds));
     let mut totals: Vec<Outcome> = RUNNERS.iter().map(nothing_yet).collect();
-    let (mut first, mut shown) = ([0u64; 5], Instant::now());
+    let (mut first, mut shown) = ([0u64; KINDS], Instant::now());
     while Instant::now() < end {
         for (i, runner) in RUNNERS.iter().enumerate() {
             let outcome = (runner.run)(&Paper::RIGHT, seed, first[i], TURNS[i], SHRINKING);
@@ -346,7 +361,7 @@ struct Caught {
 fn catch(wrong: Wrong, seed: u64, cap: Duration) -> Option<Caught> {
     let paper = Paper { wrong };
     let end = Instant::now() + cap;
-    let (mut first, mut all) = ([0u64; 5], 0);
+    let (mut first, mut all) = ([0u64; KINDS], 0);
     while Instant::now() < end {
         for (i, runner) in RUNNERS.iter().enumerate() {
             let outcome = (runner.run)(&paper, seed, first[i], TURNS[i], SHRINKING_WRONG);

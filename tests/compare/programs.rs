@@ -1,7 +1,8 @@
 //! Kind `programs`: the whole program on octets of datagrams.
 
 use crate::headers::seal;
-use crate::kind::{number, pair, pair_table, refusal_table, sent_number, sent_table, Kind, Seen, Table};
+use crate::kind::{every, number, pair, pair_table, refusal_table, sent_number, sent_table};
+use crate::kind::{Kind, Seen, Table};
 use crate::rng::Rng;
 use crate::tabor;
 use crate::words;
@@ -30,6 +31,12 @@ const SENT: usize = 2;
 const STOPS: usize = 3;
 const SPECIAL: usize = 4;
 const SIZES: usize = 5;
+const ANSWERS: usize = 6;
+const DRAWN: usize = 7;
+
+/// As many datagrams of 40 octets as are read, and as many pairs of them.
+const MOST: usize = READ / 40;
+const MOST_DRAWN: usize = MOST / 2;
 
 const STOP_NAMES: [&str; 6] = [
     "at the end",
@@ -73,23 +80,34 @@ impl Kind for Programs {
     const UNIT: &'static str = "datagrams";
     type Case = Case;
     type Answer = Answer;
+    type Ground = ();
+    const SHARED: u64 = 4;
 
     fn tables() -> Vec<Table> {
         vec![
             refusal_table("TCP datagrams", &[0, 2, 3, 4, 5, 6]),
             pair_table(&PAIRS),
             sent_table(&[0, 2, 3, 4, 5]),
-            Table::new("stops", STOP_NAMES.len(), (0..STOP_NAMES.len()).collect(), |v| {
+            Table::new("stops", STOP_NAMES.len(), every(STOP_NAMES.len()), |v| {
                 STOP_NAMES[v].to_string()
             }),
-            Table::new("special", SPECIALS.len(), (0..SPECIALS.len()).collect(), |v| {
+            Table::new("special", SPECIALS.len(), every(SPECIALS.len()), |v| {
                 SPECIALS[v].to_string()
             }),
-            Table::new("datagrams in an input", 1640, vec![0, 1, 2, 10], number),
+            Table::new("datagrams in an input", MOST + 2, vec![0, 1, 2, 10, MOST], number),
+            Table::new("answers to an input", MOST + 2, vec![0, 1, 2, 10, MOST], number),
+            Table::new(
+                "numbers drawn in an input",
+                MOST_DRAWN + 2,
+                vec![0, 1, 2, 10, MOST_DRAWN],
+                number,
+            ),
         ]
     }
 
-    fn make(rng: &mut Rng, index: u64) -> Case {
+    fn ground(_: &mut Rng, _: u64) {}
+
+    fn make(rng: &mut Rng, _: &(), index: u64) -> Case {
         if index == 0 {
             return EXAMPLE.to_vec();
         }
@@ -187,7 +205,7 @@ fn note(paper: &Paper, case: &[u8], seen: &mut Seen) {
         seen.mark(SPECIAL, 1);
     }
     let mut barn = Barn::new(paper);
-    let (mut place, mut count) = (0, 0);
+    let (mut place, mut count, mut answers) = (0, 0, 0);
     loop {
         let rest = &read[place..];
         // the station and the number it is offered, before the datagram
@@ -197,6 +215,7 @@ fn note(paper: &Paper, case: &[u8], seen: &mut Seen) {
             break;
         };
         note_datagram(paper, &before, &rest[..octets], seen);
+        answers += !barn.out.is_empty() as usize;
         // the output is not needed here, and would only grow
         barn.out.clear();
         place += octets;
@@ -204,6 +223,8 @@ fn note(paper: &Paper, case: &[u8], seen: &mut Seen) {
     }
     seen.units += count as u64;
     seen.mark(SIZES, count);
+    seen.mark(ANSWERS, answers);
+    seen.mark(DRAWN, barn.drawn as usize);
 }
 
 fn four(octets: &[u8], at: usize) -> u32 {

@@ -6,6 +6,7 @@ use crate::kind::{Kind, Seen};
 use crate::lists::Lists;
 use crate::programs::Programs;
 use crate::rng::Rng;
+use crate::shorts::Shorts;
 use crate::stations::Stations;
 use crate::steps::Steps;
 use paper::Paper;
@@ -24,10 +25,12 @@ pub struct Runner {
     pub repeat: fn(&Paper, &[u8]) -> Option<Found>,
 }
 
-pub const RUNNERS: [Runner; 5] = [
+pub const KINDS: usize = 6;
+pub const RUNNERS: [Runner; KINDS] = [
     runner::<Headers>(),
     runner::<Stations>(),
     runner::<Steps>(),
+    runner::<Shorts>(),
     runner::<Lists>(),
     runner::<Programs>(),
 ];
@@ -75,6 +78,11 @@ impl Found {
     }
 }
 
+/// Its chances are other ones than those of the cases made on it.
+fn ground<K: Kind>(seed: u64, number: u64) -> K::Ground {
+    K::ground(&mut Rng::of_case(!seed, K::NAME, number), number)
+}
+
 fn differs<K: Kind>(paper: &Paper, case: &K::Case, seen: &mut Seen) -> bool {
     K::library(case) != K::paper(paper, case, seen)
 }
@@ -84,17 +92,24 @@ fn differs<K: Kind>(paper: &Paper, case: &K::Case, seen: &mut Seen) -> bool {
 fn run<K: Kind>(paper: &Paper, seed: u64, first: u64, count: u64, shrinking: Duration) -> Outcome {
     let begin = Instant::now();
     let lowest = AtomicU64::new(u64::MAX);
+    let last = first + count;
+    // the threads take the grounds in turn
     let one = |thread: u64| {
         let mut seen = Seen::new(K::tables());
         let mut done = 0;
-        let mut index = first + thread;
-        while index < first + count && index < lowest.load(Ordering::Relaxed) {
-            let case = K::make(&mut Rng::of_case(seed, K::NAME, index), index);
-            done += 1;
-            if differs::<K>(paper, &case, &mut seen) {
-                lowest.fetch_min(index, Ordering::Relaxed);
+        let grounds = first / K::SHARED..last.div_ceil(K::SHARED);
+        for number in grounds.filter(|n| n % THREADS == thread) {
+            let ground = ground::<K>(seed, number);
+            for index in first.max(number * K::SHARED)..last.min((number + 1) * K::SHARED) {
+                if index >= lowest.load(Ordering::Relaxed) {
+                    return (done, seen);
+                }
+                let case = K::make(&mut Rng::of_case(seed, K::NAME, index), &ground, index);
+                done += 1;
+                if differs::<K>(paper, &case, &mut seen) {
+                    lowest.fetch_min(index, Ordering::Relaxed);
+                }
             }
-            index += THREADS;
         }
         (done, seen)
     };
@@ -115,7 +130,8 @@ fn run<K: Kind>(paper: &Paper, seed: u64, first: u64, count: u64, shrinking: Dur
     let found = match lowest.into_inner() {
         u64::MAX => None,
         index => {
-            let case = K::make(&mut Rng::of_case(seed, K::NAME, index), index);
+            let ground = ground::<K>(seed, index / K::SHARED);
+            let case = K::make(&mut Rng::of_case(seed, K::NAME, index), &ground, index);
             let case = shrink::<K>(paper, case, shrinking);
             Some(describe::<K>(paper, &case, Some(index)))
         }

@@ -2,11 +2,11 @@
 
 use crate::codec::{Put, Take};
 use crate::headers::{bare, seal, smaller_headers, smaller_octets};
-use crate::kind::{number, pair, pair_table, refusal_table, sent_number, sent_table};
-use crate::kind::{Kind, Seen, Table, ALL_PAIRS};
+use crate::kind::{bit_label, bit_table, every, mark_bits, mark_one_bit, number, pair, pair_table};
+use crate::kind::{refusal_table, sent_number, sent_table, size_table, Kind, Seen, Table, ALL_PAIRS};
 use crate::rng::Rng;
 use crate::tabor::{self, Header, Record, Segment, Told};
-use crate::{map, words};
+use crate::{map, sizes, words};
 use paper::{Paper, ACK, FIN, RST, SYN};
 
 #[derive(Clone)]
@@ -76,10 +76,25 @@ const STATE_NUMBERS: usize = 5;
 const MARK_NUMBERS: usize = 6;
 const OUTPUTS: usize = 7;
 const NEAR: usize = 8;
+const NEAR_BITS: usize = 9;
+const INPUTS: usize = 10;
+const FOREIGN: usize = 11;
+const TEXTS: usize = 12;
+const DRAWN: usize = 13;
+const AWAY: usize = 14;
+const FUNCTIONS: usize = 15;
 
 /// What alone is off, by one for a number, in a record not of the forms.
 const MISSES: [&str; 7] = ["ISS", "UNA", "NXT", "IRS", "RCV.NXT", "mark", "window 0"];
 const MISSED_MARK: usize = 5;
+const ENDPOINTS: [&str; 4] = [
+    "source address",
+    "destination address",
+    "source port",
+    "destination port",
+];
+const DRAWERS: [&str; 3] = ["open", "arrival", "octets"];
+const AWAY_NAMES: [&str; 2] = ["SEG.SEQ - RCV.NXT", "SEG.ACK - SND.NXT"];
 
 /// Ways in which a record is not of the forms, one after the other.
 const FAULTS: usize = 21;
@@ -91,27 +106,26 @@ impl Kind for Stations {
     const UNIT: &'static str = "calls";
     type Case = Case;
     type Answer = Answer;
+    type Ground = ();
+    const SHARED: u64 = 64;
 
     fn tables() -> Vec<Table> {
         vec![
             refusal_table("calls", &[0, 1, 2, 3, 4, 5, 6, 7, 8, 10]),
             pair_table(&ALL_PAIRS),
             sent_table(&[0, 1, 2, 3, 4, 5]),
-            Table::new(
-                "call in a state, record of the forms",
-                35,
-                (0..35).collect(),
-                |v| format!("{} in {}", CALLS[v / 5], words::STATES[v % 5]),
-            ),
+            Table::new("call in a state, record of the forms", 35, every(35), |v| {
+                format!("{} in {}", CALLS[v / 5], words::STATES[v % 5])
+            }),
             Table::new(
                 "control octet taken in a state",
                 5 * 256,
                 controls_to_take(),
                 |v| format!("{:02x} in {}", v % 256, words::STATES[v / 256]),
             ),
-            Table::new("state numbers", 256, (0..256).collect(), number),
-            Table::new("mark numbers", 256, (0..256).collect(), number),
-            Table::new("output lengths", 41, vec![0, 19, 20, 21, 40], number),
+            Table::new("state numbers", 256, every(256), number),
+            Table::new("mark numbers", 256, every(256), number),
+            size_table("output lengths, written to or refused with 10"),
             Table::new("near misses by state", 5 * MISSES.len(), misses_to_reach(), |v| {
                 format!(
                     "{} in {}",
@@ -119,19 +133,40 @@ impl Kind for Stations {
                     words::STATES[v / MISSES.len()]
                 )
             }),
+            bit_table(
+                "1 for a number off in one bit",
+                &[0..32, 0..32, 0..32, 0..32, 0..32],
+                |v| bit_label(&MISSES, v),
+            ),
+            size_table("lengths of octets arriving, checksum right"),
+            bit_table("5 for one bit", &[0..32, 0..32, 0..16, 0..16], |v| {
+                bit_label(&ENDPOINTS, v)
+            }),
+            bit_table("6 for a text of one bit", &[0..32], |v| bit_label(&["text"], v)),
+            bit_table("bits on in numbers drawn", &[0..32, 0..32, 0..32], |v| {
+                bit_label(&DRAWERS, v)
+            }),
+            bit_table("taken, one bit away", &[0..32, 0..32], |v| {
+                bit_label(&AWAY_NAMES, v)
+            }),
+            Table::new("functions", CALLS.len(), every(CALLS.len()), |v| {
+                CALLS[v].to_string()
+            }),
         ]
     }
 
-    fn make(rng: &mut Rng, index: u64) -> Case {
-        let turn = (index / 16) as usize;
+    fn ground(_: &mut Rng, _: u64) {}
+
+    fn make(rng: &mut Rng, _: &(), index: u64) -> Case {
+        let turn = (index / 20) as usize;
         let mut record = any_record(rng, turn % 5);
-        let call = match index % 16 {
-            0 => Call::Open(rng.number()),
-            1 => Call::Listen,
-            2 => Call::Abort,
-            3 => Call::Resend,
-            4 => Call::PowerCut,
-            5..=10 => Call::Arrive {
+        let call = match index % 20 {
+            0 | 1 => Call::Open(rng.number()),
+            2 | 3 => Call::Listen,
+            4 | 5 => Call::Abort,
+            6 | 7 => Call::Resend,
+            8 | 9 => Call::PowerCut,
+            10..=14 => Call::Arrive {
                 segment: any_segment(rng, &record, turn / 5),
                 fresh: rng.number(),
             },
@@ -327,25 +362,71 @@ fn octets_answer(
 
 fn note(paper: &Paper, case: &Case, answer: &Answer, seen: &mut Seen) {
     let r = &case.record;
-    seen.mark(REFUSALS, answer.told.refusal as usize);
+    let refusal = answer.told.refusal;
+    seen.mark(FUNCTIONS, case.call.number());
+    seen.mark(REFUSALS, refusal as usize);
     seen.mark(STATE_NUMBERS, r.state as usize);
     seen.mark(MARK_NUMBERS, r.passive as usize);
-    if let Call::Octets { out, .. } = &case.call {
-        seen.mark(OUTPUTS, out.len());
-    }
     let of_the_forms = map::record(r).is_some_and(|r| paper::of_the_forms(paper, &r));
     if !of_the_forms {
         return note_miss(paper, r, seen);
     }
     seen.mark(CALL_IN_STATE, case.call.number() * 5 + r.state as usize);
-    if answer.told.refusal != 0 {
+    match &case.call {
+        Call::Open(n) if answer.told.drawn == 1 => mark_bits(seen, DRAWN, 0, *n as u64),
+        Call::Arrive { segment, fresh } => note_arrival(r, segment, *fresh, &answer.told, seen),
+        Call::Octets {
+            octets, fresh, out, ..
+        } => {
+            if refusal != 4 {
+                seen.mark(INPUTS, sizes::number(octets.len()));
+            }
+            if refusal == 10 || answer.told.sent == 1 {
+                seen.mark(OUTPUTS, sizes::number(out.len()));
+            }
+            if answer.told.drawn == 1 {
+                mark_bits(seen, DRAWN, 2, *fresh as u64);
+            }
+        }
+        _ => {}
+    }
+    if refusal != 0 {
         return;
     }
     seen.mark(STEPS, pair(r.state, answer.told.next.state));
     let sent = (answer.told.sent == 1).then_some(answer.told.segment.header.control);
     seen.mark(SENT, sent_number(sent));
-    if let Call::Arrive { segment, .. } = &case.call {
-        seen.mark(CONTROLS, r.state as usize * 256 + segment.header.control as usize);
+}
+
+fn note_arrival(r: &Record, g: &Segment, fresh: u32, told: &Told, seen: &mut Seen) {
+    let h = &g.header;
+    match told.refusal {
+        0 => {
+            seen.mark(CONTROLS, r.state as usize * 256 + h.control as usize);
+            if told.drawn == 1 {
+                mark_bits(seen, DRAWN, 1, fresh as u64);
+            }
+            // where the number alone decides: out of the window, or an
+            // acknowledgment that is not the one awaited
+            let seq = h.seq.wrapping_sub(r.rcvnxt);
+            let ack = h.ack.wrapping_sub(r.nxt);
+            if r.state >= 3 && seq.is_power_of_two() {
+                mark_bits(seen, AWAY, 0, seq as u64);
+            }
+            if r.state >= 2 && h.control & ACK != 0 && ack.is_power_of_two() {
+                mark_bits(seen, AWAY, 1, ack as u64);
+            }
+        }
+        5 => {
+            let ports = [h.source ^ r.peerport, h.destination ^ r.ownport].map(u32::from);
+            mark_one_bit(
+                seen,
+                FOREIGN,
+                &[g.src ^ r.peer, g.dst ^ r.own, ports[0], ports[1]],
+            );
+        }
+        6 if h.control & FIN == 0 => mark_one_bit(seen, TEXTS, &[g.text]),
+        _ => {}
     }
 }
 
@@ -360,23 +441,38 @@ fn note_miss(paper: &Paper, r: &Record, seen: &mut Seen) {
     let Some(r) = map::record(r) else {
         return;
     };
+    let state = r.state.number();
     for miss in 0..MISSES.len() {
-        for by in [1, u32::MAX] {
-            let mut right = r;
-            match miss {
-                0 => right.iss = r.iss.wrapping_add(by),
-                1 => right.una = r.una.wrapping_add(by),
-                2 => right.nxt = r.nxt.wrapping_add(by),
-                3 => right.irs = r.irs.wrapping_add(by),
-                4 => right.rcvnxt = r.rcvnxt.wrapping_add(by),
-                5 => right.passive = !r.passive,
-                _ => right.rcvwnd = r.rcvwnd.max(1),
-            }
-            if paper::of_the_forms(paper, &right) {
-                seen.mark(NEAR, r.state.number() as usize * MISSES.len() + miss);
-            }
+        let mut right = r;
+        let off = put_right(&mut right, miss, state);
+        if !paper::of_the_forms(paper, &right) {
+            continue;
+        }
+        if miss >= MISSED_MARK || [1, u32::MAX].contains(&off) {
+            seen.mark(NEAR, state as usize * MISSES.len() + miss);
+        }
+        if miss < MISSED_MARK && off.is_power_of_two() {
+            mark_bits(seen, NEAR_BITS, miss, off as u64);
         }
     }
+}
+
+/// One field as the others ask for it; how far a number was off.
+fn put_right(r: &mut paper::Record, miss: usize, state: u8) -> u32 {
+    let (sent, received) = (state >= 2, state >= 3);
+    let before = [r.iss, r.una, r.nxt, r.irs, r.rcvnxt];
+    match miss {
+        0 => r.iss = if sent { r.nxt.wrapping_sub(1) } else { 0 },
+        1 if state == 4 => r.una = r.nxt,
+        1 => r.una = r.iss,
+        2 => r.nxt = if sent { r.iss.wrapping_add(1) } else { 0 },
+        3 => r.irs = if received { r.rcvnxt.wrapping_sub(1) } else { 0 },
+        4 => r.rcvnxt = if received { r.irs.wrapping_add(1) } else { 0 },
+        5 => r.passive = !r.passive,
+        _ => r.rcvwnd = r.rcvwnd.max(1),
+    }
+    let after = [r.iss, r.una, r.nxt, r.irs, r.rcvnxt];
+    before.iter().zip(after).map(|(b, a)| b.wrapping_sub(a)).sum()
 }
 
 // ---- making cases; `lists` uses some of these
@@ -414,7 +510,8 @@ pub fn any_record(rng: &mut Rng, state: usize) -> Record {
 /// A near miss of a form: one field off by one, a wrong mark, no window, a
 /// state or mark number that is none, a form of another state.
 pub fn spoil(rng: &mut Rng, r: &mut Record, turn: usize) {
-    let by = rng.pick(&[1, u32::MAX, 0x8000_0000]);
+    let bit = 1 << rng.below(32);
+    let by = rng.pick(&[1, u32::MAX, 0x8000_0000, bit]);
     let off = |n: &mut u32| *n = n.wrapping_add(by);
     match turn % FAULTS {
         0 => off(&mut r.iss),
@@ -477,9 +574,12 @@ fn any_control(rng: &mut Rng, turn: usize) -> u8 {
 fn any_seq(rng: &mut Rng, r: &Record) -> u32 {
     let w = r.rcvwnd as u32;
     let inside = rng.below(w.max(1) as usize) as u32;
+    let bit = 1 << rng.below(32);
     let from = rng.pick(&[
         0,
         1,
+        bit,
+        inside.wrapping_add(bit),
         u32::MAX,
         u32::MAX - 1,
         w.wrapping_sub(1),
@@ -498,7 +598,9 @@ fn any_seq(rng: &mut Rng, r: &Record) -> u32 {
 
 /// Around ISS, ISS + 1 and NXT, halfway round from NXT, or anywhere.
 fn any_ack(rng: &mut Rng, r: &Record) -> u32 {
+    let bit = 1 << rng.below(32);
     let from = rng.pick(&[
+        bit,
         0,
         0,
         0,
@@ -542,8 +644,8 @@ pub fn any_segment(rng: &mut Rng, r: &Record, turn: usize) -> Segment {
         g.header.control = rng.pick(&USUAL);
     }
     if rng.one_in(12) {
-        let text = rng.number();
-        g.text = rng.pick(&[1, 2, 1460, text]);
+        let (text, bit) = (rng.number(), 1 << rng.below(32));
+        g.text = rng.pick(&[1, 2, 1460, text, bit, bit]);
     }
     if rng.one_in(10) {
         make_foreign(rng, &mut g);
@@ -565,7 +667,8 @@ fn make_foreign(rng: &mut Rng, g: &mut Segment) {
 }
 
 /// The segment as octets, sometimes with options, and each of the refusals
-/// 2, 3, 4 by chance; text is as long as the octets behind the header.
+/// 2, 3, 4 by chance; text is as long as the octets behind the header. Octets
+/// and output have every size in turn, mostly the usual ones.
 fn octets_call(rng: &mut Rng, r: &Record, turn: usize) -> Call {
     let g = any_segment(rng, r, turn);
     let words = rng.pick(&[5, 5, 5, 6, 10, 15]);
@@ -578,6 +681,11 @@ fn octets_call(rng: &mut Rng, r: &Record, turn: usize) -> Call {
         0 => octets.truncate(rng.between(0, 19)),
         1 => octets[12] = octets[12] & 15 | (rng.below(5) as u8) << 4,
         2 => octets.truncate(rng.between(20, octets.len())),
+        3 => {
+            let size = sizes::in_turn(rng.next() as usize, 256);
+            octets.extend(rng.octets(size));
+            octets.truncate(size);
+        }
         _ => {}
     }
     seal(g.src, g.dst, &mut octets);
@@ -585,7 +693,10 @@ fn octets_call(rng: &mut Rng, r: &Record, turn: usize) -> Call {
         let at = rng.below(octets.len());
         octets[at] ^= 1 << rng.below(8);
     }
-    let length = rng.pick(&[0, 19, 20, 20, 20, 21, 21, 40, 40, 40]);
+    let length = match rng.below(8) {
+        0 => sizes::in_turn(rng.next() as usize, 128),
+        _ => rng.pick(&[0, 19, 20, 20, 20, 21, 21, 40, 40, 40]),
+    };
     Call::Octets {
         src: g.src,
         dst: g.dst,

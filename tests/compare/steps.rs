@@ -1,26 +1,39 @@
 //! Kind `steps`: one event offered alone. The player only counts what it
 //! refuses; here the number of each refusal is seen, and what was sent.
 
-use crate::kind::{pair, pair_table, refusal_table, sent_number, sent_table};
-use crate::kind::{Kind, Seen, Table, ALL_PAIRS};
+use crate::kind::{bit_label, bit_table, control_label, every, mark_bits, mark_one_bit, pair, pair_table};
+use crate::kind::{refusal_table, sent_number, sent_table, size_table, Kind, Seen, Table, ALL_PAIRS};
 use crate::lists::{self, Case, Lists, Tail};
 use crate::rng::Rng;
-use crate::tabor::{self, Model, Stepped};
-use crate::{map, words};
-use paper::Paper;
+use crate::tabor::{self, Link, Model, Stepped};
+use crate::{map, sizes, words};
+use paper::{Event, Paper, Side};
 
 // the tables, by their place
 const REFUSALS: usize = 0;
 const STEPS: usize = 1;
 const SENT: usize = 2;
-const SPECIAL: usize = 3;
+const PLACES: usize = 3;
+const DRAWN: usize = 4;
+const TEXTS: usize = 5;
+const COUNTS: usize = 6;
+const MIRROR: usize = 7;
+const SIZES: usize = 8;
+const KIND_OCTETS: usize = 9;
+const SIDE_OCTETS: usize = 10;
+const SPECIAL: usize = 11;
 
-const SPECIALS: [&str; 4] = [
+const LINKS: [&str; 2] = ["to A", "to B"];
+const ENDPOINTS: [&str; 4] = ["A's address", "B's address", "A's port", "B's port"];
+const SPECIALS: [&str; 3] = [
     "a segment turned away",
     "9 on a full link",
     "255 with a faulty model",
-    "255 for an event cut or too long",
 ];
+
+/// Kinds of event tried on a model, each at both sides; what a delivery does
+/// depends on the segment, so several places are delivered.
+const TRIED: [usize; 12] = [0, 1, 2, 3, 4, 5, 5, 5, 5, 6, 6, 7];
 
 pub struct Steps;
 
@@ -29,28 +42,56 @@ impl Kind for Steps {
     const UNIT: &'static str = "events";
     type Case = Case;
     type Answer = Stepped;
+    type Ground = Model;
+    const SHARED: u64 = 2 * TRIED.len() as u64;
 
     fn tables() -> Vec<Table> {
         vec![
             refusal_table("events", &[0, 1, 5, 6, 7, 8, 9, 11, 255]),
             pair_table(&ALL_PAIRS),
             sent_table(&[0, 1, 2, 3, 4, 5]),
-            Table::new("special", SPECIALS.len(), (0..SPECIALS.len()).collect(), |v| {
+            lists::place_table(),
+            lists::drawn_table(),
+            bit_table("6 for a text of one bit", &[0..32], |v| bit_label(&["text"], v)),
+            bit_table("1 for a count above 32 in one bit", &[6..64, 6..64], |v| {
+                bit_label(&LINKS, v)
+            }),
+            bit_table(
+                "1 for endpoints that differ in one bit",
+                &[0..32, 0..32, 0..16, 0..16],
+                |v| bit_label(&ENDPOINTS, v),
+            ),
+            size_table("sizes of an event"),
+            Table::new("first octets of ten", 256, every(256), control_label),
+            Table::new("second octets of ten", 256, every(256), control_label),
+            Table::new("special", SPECIALS.len(), every(SPECIALS.len()), |v| {
                 SPECIALS[v].to_string()
             }),
         ]
     }
 
-    fn make(rng: &mut Rng, index: u64) -> Case {
-        let model = lists::starting_model(rng, index as usize);
-        let mut events = lists::aimed_events(rng, &model, 1);
-        match rng.below(48) {
+    fn ground(rng: &mut Rng, _: u64) -> Model {
+        lists::starting_model(rng)
+    }
+
+    fn make(rng: &mut Rng, model: &Model, index: u64) -> Case {
+        let side = if index % 2 == 0 { Side::A } else { Side::B };
+        let kind = TRIED[(index / 2) as usize % TRIED.len()];
+        let event = lists::any_event(rng, kind, side, link_to(model, side).count as u64);
+        let mut events = lists::encode(&event, lists::unused(rng)).to_vec();
+        match rng.below(24) {
             0 => lists::make_no_list(rng, &mut events),
-            1 => events.truncate(rng.below(lists::SIZE)),
-            2 => events.extend(lists::aimed_events(rng, &model, 1)),
+            1 => {
+                // the event again and again, or not all of it
+                let size = sizes::in_turn(rng.next() as usize, 64);
+                events = events.iter().cycle().take(size).copied().collect();
+            }
             _ => {}
         }
-        Case { model, events }
+        Case {
+            model: *model,
+            events,
+        }
     }
 
     fn library(case: &Case) -> Stepped {
@@ -99,6 +140,13 @@ fn refused(case: &Case, refusal: u8) -> Stepped {
     }
 }
 
+fn link_to(m: &Model, side: Side) -> &Link {
+    match side {
+        Side::A => &m.toa,
+        Side::B => &m.tob,
+    }
+}
+
 fn independent(paper: &Paper, case: &Case, seen: &mut Seen) -> Stepped {
     // the boundary: what is no event is 255, before everything else
     let event = match lists::decode(&case.events).as_deref() {
@@ -112,7 +160,10 @@ fn independent(paper: &Paper, case: &Case, seen: &mut Seen) -> Stepped {
     let mut now = before;
     let told = match paper::step(paper, &mut now, event) {
         Ok(told) => told,
-        Err(refusal) => return refused(case, refusal),
+        Err(refusal) => {
+            note_refused(case, &event, refusal, seen);
+            return refused(case, refusal);
+        }
     };
     if case.events[0] < 6 {
         let side = lists::side_of(&event);
@@ -120,6 +171,7 @@ fn independent(paper: &Paper, case: &Case, seen: &mut Seen) -> Stepped {
         seen.mark(STEPS, pair(from.number(), to.number()));
         seen.mark(SENT, sent_number(told.sent.map(|g| g.header.control)));
     }
+    lists::note_drawn(&event, told.drawn, seen, DRAWN);
     let mut tails = [Tail::new(&case.model.toa), Tail::new(&case.model.tob)];
     tails[0].follow(before.toa.count, now.toa.count);
     tails[1].follow(before.tob.count, now.tob.count);
@@ -138,8 +190,45 @@ fn independent(paper: &Paper, case: &Case, seen: &mut Seen) -> Stepped {
     }
 }
 
+/// What was refused for one bit.
+fn note_refused(case: &Case, event: &Event, refusal: u8, seen: &mut Seen) {
+    let m = &case.model;
+    let link = link_to(m, lists::side_of(event));
+    match (refusal, event) {
+        (1, _) => {
+            let (a, b) = (&m.a, &m.b);
+            for (which, count) in [m.toa.count, m.tob.count].into_iter().enumerate() {
+                // a count of 0 to 32, and one bit above
+                if count % 64 <= 32 && (count - count % 64).is_power_of_two() {
+                    mark_bits(seen, COUNTS, which, (count - count % 64) as u64);
+                }
+            }
+            let ports = [a.ownport ^ b.peerport, a.peerport ^ b.ownport].map(u32::from);
+            mark_one_bit(
+                seen,
+                MIRROR,
+                &[a.own ^ b.peer, a.peer ^ b.own, ports[0], ports[1]],
+            );
+        }
+        (6, Event::Deliver(_, place, _)) => {
+            let g = &link.slots[*place as usize];
+            if g.header.control & paper::FIN == 0 {
+                mark_one_bit(seen, TEXTS, &[g.text]);
+            }
+        }
+        _ => lists::note_place(event, link.count as u64, refusal, seen, PLACES),
+    }
+}
+
 fn note(case: &Case, stepped: &Stepped, seen: &mut Seen) {
     seen.mark(REFUSALS, stepped.refusal as usize);
+    seen.mark(SIZES, sizes::number(case.events.len()));
+    if let [kind, side, ..] = case.events[..] {
+        if case.events.len() == lists::SIZE {
+            seen.mark(KIND_OCTETS, kind as usize);
+            seen.mark(SIDE_OCTETS, side as usize);
+        }
+    }
     if stepped.turned == 1 {
         seen.mark(SPECIAL, 0);
     }
@@ -149,8 +238,5 @@ fn note(case: &Case, stepped: &Stepped, seen: &mut Seen) {
     }
     if stepped.refusal == lists::NO_LIST && lists::faulty(m) {
         seen.mark(SPECIAL, 2);
-    }
-    if stepped.refusal == lists::NO_LIST && case.events.len() != lists::SIZE {
-        seen.mark(SPECIAL, 3);
     }
 }

@@ -16,7 +16,7 @@ pub struct Stream {
 }
 
 /// Every kind; seed s makes a stream of kind s modulo their number.
-pub const KINDS: [&str; 42] = [
+pub const KINDS: [&str; 43] = [
     "opening",
     "openings",
     "late",
@@ -58,6 +58,7 @@ pub const KINDS: [&str; 42] = [
     "random-octets",
     "random-datagrams",
     "aimed",
+    "answered",
     "everything",
 ];
 
@@ -232,6 +233,9 @@ impl Datagram {
 
 struct Maker {
     rng: Rng,
+    /// How many of this kind the seeds before have made: what a kind must
+    /// come to goes by turns.
+    turn: u64,
     octets: Vec<u8>,
     /// Every datagram put so far.
     put: Vec<Vec<u8>>,
@@ -243,6 +247,7 @@ impl Maker {
     fn new(seed: u64) -> Maker {
         Maker {
             rng: Rng(seed ^ 0x5eed_0f0c_7e75_0001),
+            turn: seed / KINDS.len() as u64,
             octets: Vec::new(),
             put: Vec::new(),
             barn: Barn::new(&Paper::RIGHT),
@@ -378,6 +383,25 @@ impl Maker {
             d.urgent = self.rng.next() as u16;
         }
         d
+    }
+
+    /// A segment that is answered, mostly unlike any before: with a reset of
+    /// its own numbers, now and then with an ACK or a SYN,ACK.
+    fn answered(&mut self) -> Datagram {
+        let r = self.station();
+        let (seq, ack) = (self.rng.next() as u32, self.rng.next() as u32);
+        match r.state {
+            State::Listen if self.rng.one_in(100) => Datagram::new(SYN, seq, 0),
+            State::Closed if self.rng.one_in(2) => Datagram::new(SYN, seq, 0),
+            State::Listen | State::Closed => Datagram::new(ACK, seq, ack),
+            // to CLOSED
+            State::SynReceived if self.rng.one_in(200) => Datagram::new(SYN | ACK, r.rcvnxt, ack),
+            State::SynReceived if !self.rng.one_in(20) => {
+                Datagram::new(ACK, r.rcvnxt, r.nxt.wrapping_add(ack | 1))
+            }
+            // before the window
+            _ => Datagram::new(ACK, r.rcvnxt.wrapping_sub(1), r.nxt),
+        }
     }
 
     /// Mostly towards an opening: SYN in LISTEN, the right ACK in
@@ -979,20 +1003,22 @@ impl Maker {
                 }
             }
             "straddle" => {
-                // the last datagram ends a little before, at, or beyond 65,535
+                // the last datagram, which would be answered, ends a little
+                // before, at, or beyond 65,535
                 self.begin();
-                let last = self.onward();
-                let from = self.rng.pick(&[0i64, 0, -1, 1, 2, 5, 20, 21, 39, 40, -20, -40]);
-                let begin = LIMIT as i64 - 40 + from;
+                let last = self.answered();
+                let ends = [0, 1, -1, 2, 5, 20, 21, 39, 40, -20, -40];
+                let begin = LIMIT as i64 - 40 + ends[(self.turn % ends.len() as u64) as usize];
                 let gap = begin - self.octets.len() as i64;
                 self.fill(gap as usize);
                 self.put(&last);
                 self.probe();
             }
             "reset-loop" => {
-                // many numbers drawn
-                let n = self.rng.between(200, 800);
-                for _ in 0..n {
+                // many numbers drawn, sometimes as many as there can be
+                let some = self.rng.between(200, 800);
+                let most = (LIMIT / 80) as u64;
+                for _ in 0..self.rng.pick(&[some, some, some, most]) {
                     self.open_half();
                     self.back_to_listen();
                 }
@@ -1070,6 +1096,18 @@ impl Maker {
                     let d = if m.rng.one_in(4) { m.onward() } else { m.aimed() };
                     m.put(&d);
                 });
+            }
+            "answered" => {
+                // every datagram answered; every other time as many as are
+                // read, and then more
+                let most = self.rng.pick(&[LIMIT, LIMIT, 20_000, 4_000]);
+                while self.octets.len() + 40 <= most {
+                    let d = self.answered();
+                    self.put(&d);
+                }
+                if self.rng.one_in(2) {
+                    self.probe();
+                }
             }
             _ => {
                 // everything
