@@ -9,7 +9,9 @@ ghost use mathlib.Core.Path.{_≡_};
 ghost use Rattle.checksum.specs.Sum.{checksumOf};
 ghost use Rattle.datagram.specs.Program.{output};
 ghost use Rattle.datagram.specs.Promises.{Writes};
-ghost use Rattle.boundary.specs.Calls.{openTold, listenTold, abortTold, resendTold, powerCutTold, arriveTold, Arrives};
+ghost use Rattle.station.specs.declared.Event.the-variants as Event;
+ghost use Rattle.boundary.specs.Numbers.{segmentOf};
+ghost use Rattle.boundary.specs.Calls.{eventTold, Arrives};
 ghost use Rattle.boundary.specs.Headers.{readTold, Written};
 ghost use Rattle.boundary.specs.Player.{stepTold, playTold};
 ghost use Rattle.boundary.specs.Theorems.{CrossesBack};
@@ -111,54 +113,49 @@ pub struct Played {
 
 // ---- a station's calls
 
-#[no_mangle]
-pub extern "C" fn tabor_open(r: Record, n: u32) -> Told
-    ensures { λ x. ⌜ x ≡ openTold r n ⌝ }
+// One event of a station in numbers.
+fn event(r: Record, e: station::Event) -> Told
+    ensures { λ x. ⌜ x ≡ eventTold r e ⌝ }
 {
     if !numbers::known(r) {
         return telling::refused(r, 1);
     }
-    telling::told(r, numbers::station_of(r).open(n))
+    telling::told(r, numbers::station_of(r).step(e))
+}
+
+#[no_mangle]
+pub extern "C" fn tabor_open(r: Record, n: u32) -> Told
+    ensures { λ x. ⌜ x ≡ eventTold r (Event.Open n) ⌝ }
+{
+    event(r, station::Event::Open(n))
 }
 
 #[no_mangle]
 pub extern "C" fn tabor_listen(r: Record) -> Told
-    ensures { λ x. ⌜ x ≡ listenTold r ⌝ }
+    ensures { λ x. ⌜ x ≡ eventTold r Event.Listen ⌝ }
 {
-    if !numbers::known(r) {
-        return telling::refused(r, 1);
-    }
-    telling::told(r, numbers::station_of(r).listen())
+    event(r, station::Event::Listen)
 }
 
 #[no_mangle]
 pub extern "C" fn tabor_abort(r: Record) -> Told
-    ensures { λ x. ⌜ x ≡ abortTold r ⌝ }
+    ensures { λ x. ⌜ x ≡ eventTold r Event.Abort ⌝ }
 {
-    if !numbers::known(r) {
-        return telling::refused(r, 1);
-    }
-    telling::told(r, numbers::station_of(r).abort())
+    event(r, station::Event::Abort)
 }
 
 #[no_mangle]
 pub extern "C" fn tabor_resend(r: Record) -> Told
-    ensures { λ x. ⌜ x ≡ resendTold r ⌝ }
+    ensures { λ x. ⌜ x ≡ eventTold r Event.Resend ⌝ }
 {
-    if !numbers::known(r) {
-        return telling::refused(r, 1);
-    }
-    telling::told(r, numbers::station_of(r).resend())
+    event(r, station::Event::Resend)
 }
 
 #[no_mangle]
 pub extern "C" fn tabor_power_cut(r: Record) -> Told
-    ensures { λ x. ⌜ x ≡ powerCutTold r ⌝ }
+    ensures { λ x. ⌜ x ≡ eventTold r Event.PowerCut ⌝ }
 {
-    if !numbers::known(r) {
-        return telling::refused(r, 1);
-    }
-    telling::told(r, numbers::station_of(r).power_cut())
+    event(r, station::Event::PowerCut)
 }
 
 // ---- arrival
@@ -166,15 +163,9 @@ pub extern "C" fn tabor_power_cut(r: Record) -> Told
 // A segment arrives.
 #[no_mangle]
 pub extern "C" fn tabor_arrive(r: Record, g: Segment, fresh: u32) -> Told
-    ensures { λ x. ⌜ x ≡ arriveTold r g fresh ⌝ }
+    ensures { λ x. ⌜ x ≡ eventTold r (Event.Arrive (segmentOf g) fresh) ⌝ }
 {
-    if !numbers::known(r) {
-        return telling::refused(r, 1);
-    }
-    telling::told(
-        r,
-        numbers::station_of(r).arrive(numbers::segment_of(g), fresh),
-    )
+    event(r, station::Event::Arrive(numbers::segment_of(g), fresh))
 }
 
 // Octets arrive; what is sent is written as octets, too. An output below 20 octets is 10, after 1 to 6

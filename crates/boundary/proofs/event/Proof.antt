@@ -1,6 +1,6 @@
 use borrow.Author.Needs.{needs}
-use Rattle.boundary.proofs.tabor_power_cut.Statement.{statement}
-use Rattle.boundary.proofs.tabor_power_cut.Tie as tie
+use Rattle.boundary.proofs.event.Statement.{statement}
+use Rattle.boundary.proofs.event.Tie as tie
 
 known-requires : tie.Need-known-requires
 known-requires c κs = search needs
@@ -16,8 +16,8 @@ returns c =
 station-of-requires : tie.Need-station-of-requires
 station-of-requires c κs = search needs
 
-power-cut-requires : tie.Need-power-cut-requires
-power-cut-requires c κs = search needs
+step-requires : tie.Need-step-requires
+step-requires c κs = search needs
 
 told-requires : tie.Need-told-requires
 told-requires c κs = search needs
@@ -25,21 +25,21 @@ told-requires c κs = search needs
 returns-2 : tie.Need-returns-2
 returns-2 c =
     simp (
-      ← c .before .power-cut .ensures,
+      ← c .before .step .ensures,
       ← c .before .before .station-of .ensures,
       c .before .before .before .if1 .left,
       ← c .before .before .before .before .known .ensures,
     )
     (c .told .ensures)
 
-pub tabor-power-cut-spec : {M : Type 1} → statement M
-tabor-power-cut-spec =
+pub event-spec : {M : Type 1} → statement M
+event-spec =
     tie.close
     (tie.spec
     known-requires
     refused-requires
     returns
     station-of-requires
-    power-cut-requires
+    step-requires
     told-requires
     returns-2)
