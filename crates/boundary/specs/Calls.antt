@@ -13,26 +13,10 @@ use Rattle.station.specs.Outcomes.{Step}
 use Rattle.station.specs.Arrival.{octetsSaid}
 use Rattle.station.specs.Events.{eventSaid}
 use Rattle.station.specs.declared.Event.{Event}
-use Rattle.boundary.specs.Numbers.{bitOf, known, stationOf, recordOf, segmentNumbers, noSegment}
-use Rattle.boundary.specs.declared.Record.{Record}
-use Rattle.boundary.specs.declared.Segment.{Segment}
-use Rattle.boundary.specs.declared.Told.{Told}
-
--- the segment sent, or zero
-abbrev pub sentNumbers : List segment·Segment → Segment
-sentNumbers [] = noSegment
-sentNumbers (g ∷ gs) = segmentNumbers g
-
--- what is told of a step: after a refusal its number alone, and the record that came in
-abbrev pub toldOf : Record → Said Step → Told
-toldOf c (refused n) = record { next = c; segment = noSegment; refusal = n; sent = 0; drawn = 0 }
-toldOf c (given step) = record {
-  next = recordOf (step .next);
-  segment = sentNumbers (step .sent);
-  refusal = 0;
-  sent = length (step .sent);
-  drawn = bitOf (step .drawn);
-}
+use Rattle.numbers.specs.Numbers.{known, stationOf}
+use Rattle.numbers.specs.declared.Record.{Record}
+use Rattle.telling.specs.declared.Told.{Told}
+use Rattle.telling.specs.Told.{toldOf}
 
 -- "record not of the forms above" (01's table, 1), where a state or mark number names none
 abbrev pub ifKnown : Record → Said Step → Said Step

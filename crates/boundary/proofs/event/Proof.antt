@@ -19,8 +19,8 @@ station-of-requires c κs = search needs
 step-requires : tie.Need-step-requires
 step-requires c κs = search needs
 
-told-requires : tie.Need-told-requires
-told-requires c κs = search needs
+told-of-requires : tie.Need-told-of-requires
+told-of-requires c κs = search needs
 
 returns-2 : tie.Need-returns-2
 returns-2 c =
@@ -30,7 +30,7 @@ returns-2 c =
       c .before .before .before .if1 .left,
       ← c .before .before .before .before .known .ensures,
     )
-    (c .told .ensures)
+    (c .told-of .ensures)
 
 pub event-spec : {M : Type 1} → statement M
 event-spec =
@@ -41,5 +41,5 @@ event-spec =
     returns
     station-of-requires
     step-requires
-    told-requires
+    told-of-requires
     returns-2)
