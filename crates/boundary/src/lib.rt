@@ -11,6 +11,7 @@ ghost use Rattle.numbers.specs.Numbers.{segmentOf};
 ghost use Rattle.boundary.specs.Calls.{eventTold, Arrives};
 ghost use Rattle.boundary.specs.Headers.{readTold, Written};
 ghost use Rattle.boundary.specs.Player.{stepTold, playTold};
+ghost use Rattle.boundary.specs.Theorems.{OneOutcome};
 use numbers::Header;
 use numbers::Model;
 use numbers::Record;
@@ -163,3 +164,10 @@ pub extern "C" fn tabor_run(input: &[u8], out: &mut [u8; 65535]) -> usize
 {
     datagram::run(input, out)
 }
+
+// ---- a theorem, promised by a function that does nothing
+
+// The promises leave one outcome.
+pub fn one_outcome()
+    ensures { λ r. ⌜ OneOutcome ⌝ }
+{}

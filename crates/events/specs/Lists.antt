@@ -4,7 +4,7 @@ use mathlib.Core.Bool.{Bool, true, _&&_}
 use mathlib.Core.List.{List, [], _∷_, _++_}
 use lib.ListN.{length, getD, drop, replicate}
 use lib.Dec.{eqb, ltb}
-use Rattle.segment.specs.Octets.{at32}
+use Rattle.segment.specs.Octets.{four, at32}
 use Rattle.station.specs.Forms.{if_then_else_}
 use Rattle.model.specs.declared.Side.{Side}
 use Rattle.model.specs.declared.Side.the-variants.{A, B}
@@ -38,6 +38,26 @@ isEvent s = eqb (length s) 10 && namesEvent s
 -- the event in ten octets
 unfoldable pub eventAt : List ℕ → Event
 eventAt s = eventOf (getD s 0 0) (sideOf (getD s 1 0)) (at32 s 2) (at32 s 6)
+
+-- the number of a side
+unfoldable pub sideNumber : Side → ℕ
+sideNumber A = 0
+sideNumber B = 1
+
+-- ten octets: "kind .., side .., place in four octets, number in four octets, high octet first"
+abbrev pub ten : ℕ → ℕ → ℕ → ℕ → List ℕ
+ten kind side place number = kind ∷ side ∷ four place ++ four number
+
+-- an event in ten octets: "0 open, 1 listen, 2 abort, 3 resend, 4 power cut, 5 deliver, 6 copy, 7 lose"; what a kind does not use is zero
+unfoldable pub octetsOfEvent : Event → List ℕ
+octetsOfEvent (Open side number) = ten 0 (sideNumber side) 0 number
+octetsOfEvent (Listen side) = ten 1 (sideNumber side) 0 0
+octetsOfEvent (Abort side) = ten 2 (sideNumber side) 0 0
+octetsOfEvent (Resend side) = ten 3 (sideNumber side) 0 0
+octetsOfEvent (PowerCut side) = ten 4 (sideNumber side) 0 0
+octetsOfEvent (Deliver side place number) = ten 5 (sideNumber side) place number
+octetsOfEvent (Copy side place) = ten 6 (sideNumber side) place 0
+octetsOfEvent (Lose side place) = ten 7 (sideNumber side) place 0
 
 -- how many events the octets have room for
 abbrev pub countOf : List ℕ → ℕ

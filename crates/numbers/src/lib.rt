@@ -5,7 +5,7 @@ ghost use mathlib.Core.Path.{_≡_};
 ghost use Rattle.station.specs.Forms.{place};
 ghost use Rattle.numbers.specs.Numbers.{bitOf, stateOf, known as Numbers·known, stationOf, recordOf, headerOf, headerNumbers, segmentOf, segmentNumbers};
 ghost use Rattle.numbers.specs.Links.{bothKnown, modelOf, modelNumbers};
-ghost use Rattle.numbers.specs.Theorems.{CrossesBack};
+ghost use Rattle.numbers.specs.Theorems.{CrossesBack, Examples};
 use station::State;
 use station::Station;
 
@@ -243,9 +243,14 @@ pub fn model_numbers(m: model::Model) -> Model
     }
 }
 
-// ---- a theorem, promised by a function that does nothing
+// ---- theorems, promised by functions that do nothing
 
 // What crosses comes back as it was.
 pub fn crosses_back()
     ensures { λ r. ⌜ CrossesBack ⌝ }
+{}
+
+// Which number is which, by hand.
+pub fn examples()
+    ensures { λ r. ⌜ Examples ⌝ }
 {}
