@@ -1,5 +1,3 @@
-pub mod Filled
-pub mod Listed
 pub mod Room
 pub mod Reported
-pub mod Crossing
+pub mod Outcome

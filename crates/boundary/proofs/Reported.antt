@@ -1,14 +1,11 @@
 -- What is told of an event and of a list in octets. Assumes nothing.
-use Prim.Native.Nat.{ℕ, _≤_}
+use Prim.Native.Nat.{ℕ}
 use mathlib.Core.Path.{_≡_, refl, ap, _∙_}
 use mathlib.Core.Bool.{Bool, true, false}
 use mathlib.Core.List.{List}
-use native.Mathlib.Omega.{arith}
 use lib.ListN.{take}
 use lib.Dec.{ltb}
-use borrow.Author.Tests.{ltb-true, ltb-false}
 use Rattle.segment.specs.Refusals.{Said, refused, given}
-use Rattle.station.specs.Forms.{if_then_else_}
 use Rattle.model.specs.declared.Model.{Model}
 use Rattle.model.specs.declared.Event.{Event}
 use Rattle.model.specs.declared.Totals.{Totals}
@@ -20,8 +17,9 @@ use Rattle.model.specs.declared.Answer.the-variants as Answer
 use Rattle.model.specs.declared.Stepped.{Stepped}
 use Rattle.model.specs.Step.{Moved, Reply, saidAnswer, replyOf, modelAfter, Tells}
 use Rattle.model.specs.Play.{Run, playSaid, modelPlayed, saidReport, totalsOf, Reports, Plays}
-use Rattle.boundary.specs.Lists.{eventsAt}
-use Rattle.boundary.specs.Player.{reportOf, answerOf}
+use Rattle.events.specs.Lists.{countOf, eventsAt, listAt}
+use Rattle.events.proofs.Listed.{listed-whole}
+use Rattle.telling.specs.Told.{reportOf, answerOf}
 
 -- ---- a report and the model beside it are the run that is promised
 
@@ -57,22 +55,16 @@ whole-again m (given moved) = refl
 pub answered : (m : Model) (x : Said Moved) (s : Stepped) → Tells m x s → answerOf (s .model) (s .answer) ≡ x
 answered m x s h = by-reply (s .model) (s .answer) ∙ rw (h .answer, h .model) (whole-again m x)
 
--- ---- the player's limit
+-- ---- the player's array
 
-module _ (n x : ℕ) (e : x ≡ (if ltb 4096 n then 4096 else n)) where
-  least-by : (b : Bool) → ltb 4096 n ≡ b → (x ≤ n) × (x ≤ 4096)
-  least-by true t = let f : x ≡ 4096 = rw t at e in omega (arith, f, ltb-true 4096 n t)
-  least-by false t = let f : x ≡ n = rw t at e in omega (arith, f, ltb-false 4096 n t)
+module _ (m : Model) (s : List ℕ) where
+  played-by : (b : Bool) → ltb 4096 (countOf s) ≡ b → playSaid m (countOf s) (take (countOf s) (listAt s)) ≡ playSaid m (countOf s) (eventsAt (countOf s) s)
+  unfolding playSaid
+  played-by true t = rw t
+  played-by false t = ap (playSaid m (countOf s)) (listed-whole s t)
 
-  pub least : (x ≤ n) × (x ≤ 4096)
-  least = least-by (ltb 4096 n) refl
-
-  module _ (m : Model) (s : List ℕ) (es : List Event) (filled : take x es ≡ eventsAt x s) where
-    played-by : (b : Bool) → ltb 4096 n ≡ b → playSaid m n (take n es) ≡ playSaid m n (eventsAt n s)
-    unfolding playSaid
-    played-by true t = rw t
-    played-by false t = let f : x ≡ n = rw t at e in ap (playSaid m n) (rw f at filled)
-
-    -- a list past the limit is refused whatever the events, and one within it is filled whole
-    pub played-whole : (p : Played) → Plays m n (take n es) p → reportOf (p .model) (p .report) ≡ playSaid m n (eventsAt n s)
-    played-whole p h = reported m (playSaid m n (take n es)) p h ∙ played-by (ltb 4096 n) refl
+  -- a list past the limit is refused whatever the events, and one within it is there whole
+  pub played-whole : (n : ℕ) (es : List Event) (p : Played) → es ≡ listAt s → n ≡ countOf s → Plays m n (take n es) p
+      → reportOf (p .model) (p .report) ≡ playSaid m (countOf s) (eventsAt (countOf s) s)
+  played-whole n es p e k h =
+      reported m (playSaid m (countOf s) (take (countOf s) (listAt s))) p (rw (e, k) at h) ∙ played-by (ltb 4096 (countOf s)) refl

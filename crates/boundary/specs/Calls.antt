@@ -10,56 +10,21 @@ use Rattle.segment.specs.Refusals.{Said, refused, given}
 use Rattle.segment.specs.Write.{made}
 use Rattle.station.specs.Forms.{if_then_else_}
 use Rattle.station.specs.Outcomes.{Step}
-use Rattle.station.specs.Calls.{openSaid, listenSaid, abortSaid, resendSaid, powerCutSaid}
-use Rattle.station.specs.Arrival.{arriveSaid, octetsSaid}
-use Rattle.boundary.specs.Numbers.{bitOf, known, stationOf, recordOf, segmentOf, segmentNumbers, noSegment}
-use Rattle.boundary.specs.declared.Record.{Record}
-use Rattle.boundary.specs.declared.Segment.{Segment}
-use Rattle.boundary.specs.declared.Told.{Told}
-
--- the segment sent, or zero
-abbrev pub sentNumbers : List segment·Segment → Segment
-sentNumbers [] = noSegment
-sentNumbers (g ∷ gs) = segmentNumbers g
-
--- what is told of a step: after a refusal its number alone, and the record that came in
-abbrev pub toldOf : Record → Said Step → Told
-toldOf c (refused n) = record { next = c; segment = noSegment; refusal = n; sent = 0; drawn = 0 }
-toldOf c (given step) = record {
-  next = recordOf (step .next);
-  segment = sentNumbers (step .sent);
-  refusal = 0;
-  sent = length (step .sent);
-  drawn = bitOf (step .drawn);
-}
+use Rattle.station.specs.Arrival.{octetsSaid}
+use Rattle.station.specs.Events.{eventSaid}
+use Rattle.station.specs.declared.Event.{Event}
+use Rattle.numbers.specs.Numbers.{known, stationOf}
+use Rattle.numbers.specs.declared.Record.{Record}
+use Rattle.telling.specs.declared.Told.{Told}
+use Rattle.telling.specs.Told.{toldOf}
 
 -- "record not of the forms above" (01's table, 1), where a state or mark number names none
 abbrev pub ifKnown : Record → Said Step → Said Step
 ifKnown c x = if not (known c) then refused 1 else x
 
--- an open with a number
-abbrev pub openTold : Record → ℕ → Told
-openTold c n = toldOf c (ifKnown c (openSaid (stationOf c) n))
-
--- a listen
-abbrev pub listenTold : Record → Told
-listenTold c = toldOf c (ifKnown c (listenSaid (stationOf c)))
-
--- an abort
-abbrev pub abortTold : Record → Told
-abortTold c = toldOf c (ifKnown c (abortSaid (stationOf c)))
-
--- a resend
-abbrev pub resendTold : Record → Told
-resendTold c = toldOf c (ifKnown c (resendSaid (stationOf c)))
-
--- a power cut
-abbrev pub powerCutTold : Record → Told
-powerCutTold c = toldOf c (ifKnown c (powerCutSaid (stationOf c)))
-
--- a segment that arrives
-abbrev pub arriveTold : Record → Segment → ℕ → Told
-arriveTold c g fresh = toldOf c (ifKnown c (arriveSaid (stationOf c) (segmentOf g) fresh))
+-- what is told of an event of a station
+abbrev pub eventTold : Record → Event → Told
+eventTold c e = toldOf c (ifKnown c (eventSaid (stationOf c) e))
 
 -- "output below 20 octets" (01's table, 10), after what the octets are refused for
 abbrev pub ifRoom : List ℕ → Said Step → Said Step

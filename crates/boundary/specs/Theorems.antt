@@ -1,16 +1,40 @@
--- The theorem of the boundary (docs/DECISIONS.md, "The boundary in numbers").
-use Prim.Native.Nat.{_<_}
+-- The theorem of the boundary (01, "How far a contract must go"; docs/DECISIONS.md, "Contracts that leave more than one outcome").
+use Prim.Native.Nat.{ℕ}
 use mathlib.Core.Path.{_≡_}
-use mathlib.Core.Bool.{true}
-use Rattle.segment.specs.declared.Segment.{Segment as segment·Segment}
-use Rattle.station.specs.declared.Station.{Station}
-use Rattle.boundary.specs.Numbers.{known, stationOf, recordOf, segmentOf, segmentNumbers}
-use Rattle.boundary.specs.declared.Record.{Record}
-use Rattle.boundary.specs.declared.Segment.{Segment}
+use mathlib.Core.List.{List}
+use Rattle.checksum.specs.Sum.{checksumOf}
+use Rattle.station.specs.declared.Event.{Event}
+use Rattle.datagram.specs.Program.{output}
+use Rattle.datagram.specs.Promises.{Writes}
+use Rattle.numbers.specs.declared.Record.{Record}
+use Rattle.numbers.specs.declared.Header.{Header}
+use Rattle.numbers.specs.declared.Model.{Model}
+use Rattle.boundary.specs.Calls.{eventTold, Arrives}
+use Rattle.boundary.specs.Headers.{readTold, Written}
+use Rattle.boundary.specs.Player.{stepTold, playTold}
+use Rattle.telling.specs.declared.Told.{Told}
+use Rattle.telling.specs.declared.Reading.{Reading}
+use Rattle.telling.specs.declared.Stepped.{Stepped}
+use Rattle.telling.specs.declared.Played.{Played}
 
--- what crosses comes back as it was: a station through numbers that name one, such numbers through a station, segments both ways
-pub record CrossesBack : Type 0 where
-  pub station : (s : Station) → (known (recordOf s) ≡ true) × (stationOf (recordOf s) ≡ s)
-  pub numbers : (c : Record) → known c ≡ true → recordOf (stationOf c) ≡ c
-  pub segment : (g : segment·Segment) → segmentOf (segmentNumbers g) ≡ g
-  pub segments : (c : Segment) → c .header .control < 256 → segmentNumbers (segmentOf c) ≡ c
+-- the promises leave one outcome: two answers that keep one are the same, and so is the output at exit
+pub record OneOutcome : Type 0 where
+  -- `tabor_open`, `tabor_listen`, `tabor_abort`, `tabor_resend`, `tabor_power_cut`, `tabor_arrive`
+  pub event : (c : Record) (e : Event) (r r′ : Told) → r ≡ eventTold c e → r′ ≡ eventTold c e → r ≡ r′
+  -- `tabor_arrive_octets`
+  pub arriving : (c : Record) (src dst : ℕ) (s : List ℕ) (fresh : ℕ) (out o o′ : List ℕ) (r r′ : Told)
+      → Arrives c src dst s fresh out o r → Arrives c src dst s fresh out o′ r′ → (r ≡ r′) × (o ≡ o′)
+  -- `tabor_read`
+  pub reading : (src dst : ℕ) (s : List ℕ) (r r′ : Reading) → r ≡ readTold src dst s → r′ ≡ readTold src dst s → r ≡ r′
+  -- `tabor_write`
+  pub writing : (src dst : ℕ) (c : Header) (out o o′ : List ℕ) (r r′ : ℕ)
+      → Written src dst c out o r → Written src dst c out o′ r′ → (r ≡ r′) × (o ≡ o′)
+  -- `tabor_checksum`
+  pub summing : (src dst : ℕ) (s : List ℕ) (r r′ : ℕ) → r ≡ checksumOf src dst s → r′ ≡ checksumOf src dst s → r ≡ r′
+  -- `tabor_step`
+  pub stepping : (c : Model) (s : List ℕ) (r r′ : Stepped) → r ≡ stepTold c s → r′ ≡ stepTold c s → r ≡ r′
+  -- `tabor_play`
+  pub playing : (c : Model) (s : List ℕ) (r r′ : Played) → r ≡ playTold c s → r′ ≡ playTold c s → r ≡ r′
+  -- `tabor_run`
+  pub running : (input out o o′ : List ℕ) (r r′ : ℕ)
+      → Writes (output input) out o r → Writes (output input) out o′ r′ → (r ≡ r′) × (o ≡ o′)

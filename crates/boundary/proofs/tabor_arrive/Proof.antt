@@ -2,49 +2,14 @@ use borrow.Author.Needs.{needs}
 use Rattle.boundary.proofs.tabor_arrive.Statement.{statement}
 use Rattle.boundary.proofs.tabor_arrive.Tie as tie
 
-known-requires : tie.Need-known-requires
-known-requires c κs = search needs
-
-refused-requires : tie.Need-refused-requires
-refused-requires c κs = search needs
-
-returns : tie.Need-returns
-returns c =
-    simp (c .before .if1 .taken, ← c .before .before .known .ensures)
-    (c .refused .ensures)
-
-station-of-requires : tie.Need-station-of-requires
-station-of-requires c κs = search needs
-
 segment-of-requires : tie.Need-segment-of-requires
 segment-of-requires c κs = search needs
 
-arrive-requires : tie.Need-arrive-requires
-arrive-requires c κs = search needs
+event-requires : tie.Need-event-requires
+event-requires c κs = search needs
 
-told-requires : tie.Need-told-requires
-told-requires c κs = search needs
-
-returns-2 : tie.Need-returns-2
-returns-2 c =
-    simp (
-      ← c .before .arrive .ensures,
-      ← c .before .before .segment-of .ensures,
-      ← c .before .before .before .station-of .ensures,
-      c .before .before .before .before .if1 .left,
-      ← c .before .before .before .before .before .known .ensures,
-    )
-    (c .told .ensures)
+returns : tie.Need-returns
+returns c = rw (← c .before .segment-of .ensures) (c .event .ensures)
 
 pub tabor-arrive-spec : {M : Type 1} → statement M
-tabor-arrive-spec =
-    tie.close
-    (tie.spec
-    known-requires
-    refused-requires
-    returns
-    station-of-requires
-    segment-of-requires
-    arrive-requires
-    told-requires
-    returns-2)
+tabor-arrive-spec = tie.close (tie.spec segment-of-requires event-requires returns)

@@ -1,6 +1,6 @@
 use mathlib.Core.Path.{ap, _∙_}
 use borrow.Author.Needs.{needs}
-use Rattle.boundary.specs.Player.{steppedOf}
+use Rattle.telling.specs.Told.{steppedOf}
 use Rattle.boundary.proofs.Reported.{answered}
 use Rattle.boundary.proofs.tabor_step.Statement.{statement}
 use Rattle.boundary.proofs.tabor_step.Tie as tie
@@ -19,11 +19,8 @@ returns c =
       ← c .before .before .is-event .ensures,
     )
 
-known-requires : tie.Need-known-requires
-known-requires c κs = search needs
-
-known-requires-2 : tie.Need-known-requires-2
-known-requires-2 c κs = search needs
+both-known-requires : tie.Need-both-known-requires
+both-known-requires c κs = search needs
 
 not-stepped-requires-2 : tie.Need-not-stepped-requires-2
 not-stepped-requires-2 c κs = search needs
@@ -33,10 +30,9 @@ returns-2 c =
     simp (
       ← c .not-stepped2 .ensures,
       c .before .if2 .taken,
-      ← c .before .before .known2 .ensures,
-      ← c .before .before .before .known .ensures,
-      c .before .before .before .before .if1 .left,
-      ← c .before .before .before .before .before .is-event .ensures,
+      ← c .before .before .both-known .ensures,
+      c .before .before .before .if1 .left,
+      ← c .before .before .before .before .is-event .ensures,
     )
 
 model-of-requires : tie.Need-model-of-requires
@@ -48,8 +44,8 @@ event-at-requires c κs = search needs
 step-requires : tie.Need-step-requires
 step-requires c κs = search needs
 
-stepped-requires : tie.Need-stepped-requires
-stepped-requires c κs = search needs
+stepped-of-requires : tie.Need-stepped-of-requires
+stepped-of-requires c κs = search needs
 
 returns-3 : tie.Need-returns-3
 returns-3 c =
@@ -57,12 +53,11 @@ returns-3 c =
       ← c .before .before .event-at .ensures,
       ← c .before .before .before .model-of .ensures,
       c .before .before .before .before .if2 .left,
-      ← c .before .before .before .before .before .known2 .ensures,
-      ← c .before .before .before .before .before .before .known .ensures,
-      c .before .before .before .before .before .before .before .if1 .left,
-      ← c .before .before .before .before .before .before .before .before .is-event .ensures,
+      ← c .before .before .before .before .before .both-known .ensures,
+      c .before .before .before .before .before .before .if1 .left,
+      ← c .before .before .before .before .before .before .before .is-event .ensures,
     )
-    (c .stepped .ensures ∙ ap (steppedOf _) (answered _ _ _ (c .before .step .ensures)))
+    (c .stepped-of .ensures ∙ ap (steppedOf _) (answered _ _ _ (c .before .step .ensures)))
 
 pub tabor-step-spec : {M : Type 1} → statement M
 tabor-step-spec =
@@ -71,12 +66,11 @@ tabor-step-spec =
     is-event-requires
     not-stepped-requires
     returns
-    known-requires
-    known-requires-2
+    both-known-requires
     not-stepped-requires-2
     returns-2
     model-of-requires
     event-at-requires
     step-requires
-    stepped-requires
+    stepped-of-requires
     returns-3)

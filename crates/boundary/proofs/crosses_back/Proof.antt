@@ -1,9 +1,0 @@
-use Rattle.boundary.proofs.Crossing.{crosses-back}
-use Rattle.boundary.proofs.crosses_back.Statement.{statement}
-use Rattle.boundary.proofs.crosses_back.Tie as tie
-
-returns : tie.Need-returns
-returns c = crosses-back
-
-pub crosses-back-spec : {M : Type 1} → statement M
-crosses-back-spec = tie.close (tie.spec returns)
