@@ -581,18 +581,24 @@ fn beside(svg: &mut Svg, x: Side, y: f64, words: &[(String, bool)]) {
 // ---- the crates
 
 /// A few words for the crates that are known.
-const CRATES: [(&str, &str); 12] = [
+const CRATES: [(&str, &str); 18] = [
     ("seq", "the circle of 2^32"),
     ("checksum", "the 16-bit sum"),
     ("segment", "octets and fields"),
     ("station", "one station"),
     ("lent", "a record that is lent"),
+    ("owner", "lends its record"),
     ("model", "two stations, links"),
     ("opening", "demand 3"),
     ("examples", "P1 to P12"),
+    ("cases", "a case for each rule"),
+    ("octet_cases", "the same of octets"),
     ("datagram", "IPv4 in and out"),
     ("barn", "the program"),
     ("vectors", "header vectors"),
+    ("numbers", "structs of numbers"),
+    ("events", "events in octets"),
+    ("telling", "what is told"),
     ("boundary", "for C and Rust"),
 ];
 
