@@ -1,11 +1,10 @@
 //! Kind `programs`: the whole program on octets of datagrams.
 
 use crate::headers::seal;
-use crate::kind::{every, number, pair, pair_table, refusal_table, sent_number, sent_table};
+use crate::kind::{every, number, pair, pair_table, refusal_table, sent_number, sent_table, size_table};
 use crate::kind::{Kind, Seen, Table};
 use crate::rng::Rng;
-use crate::tabor;
-use crate::words;
+use crate::{sizes, tabor, words};
 use paper::streams::KINDS;
 use paper::{Barn, Paper};
 use std::sync::OnceLock;
@@ -33,6 +32,8 @@ const SPECIAL: usize = 4;
 const SIZES: usize = 5;
 const ANSWERS: usize = 6;
 const DRAWN: usize = 7;
+const INPUTS: usize = 8;
+const TOTALS: usize = 9;
 
 /// As many datagrams of 40 octets as are read, and as many pairs of them.
 const MOST: usize = READ / 40;
@@ -46,10 +47,9 @@ const STOP_NAMES: [&str; 6] = [
     "total above 1,500",
     "octets missing",
 ];
-const SPECIALS: [&str; 5] = [
+const SPECIALS: [&str; 4] = [
     "other protocol",
     "more than 65,535 octets",
-    "exactly 1,500 octets",
     "IP options",
     "fragment",
 ];
@@ -102,6 +102,8 @@ impl Kind for Programs {
                 vec![0, 1, 2, 10, MOST_DRAWN],
                 number,
             ),
+            size_table("input sizes"),
+            Table::new("total lengths walked over", 1501, (20..1501).collect(), number),
         ]
     }
 
@@ -112,6 +114,11 @@ impl Kind for Programs {
             return EXAMPLE.to_vec();
         }
         let mut octets = stream(rng, index);
+        if index % 16 == 7 && !octets.is_empty() {
+            // again and again, or not all of it
+            let size = sizes::in_turn(rng.next() as usize, 16);
+            return octets.into_iter().cycle().take(size).collect();
+        }
         if index % 3 == 2 {
             for _ in 0..rng.between(1, 4) {
                 octets = mutated(rng, octets);
@@ -201,6 +208,7 @@ fn background() -> &'static [u8] {
 
 fn note(paper: &Paper, case: &[u8], seen: &mut Seen) {
     let read = &case[..case.len().min(READ)];
+    seen.mark(INPUTS, sizes::number(case.len()));
     if case.len() > READ {
         seen.mark(SPECIAL, 1);
     }
@@ -237,14 +245,12 @@ fn two(octets: &[u8], at: usize) -> usize {
 
 fn note_datagram(paper: &Paper, before: &(paper::Record, u32), datagram: &[u8], seen: &mut Seen) {
     let header = (datagram[0] & 15) as usize * 4;
-    if datagram.len() == 1500 {
+    seen.mark(TOTALS, datagram.len());
+    if header > 20 {
         seen.mark(SPECIAL, 2);
     }
-    if header > 20 {
-        seen.mark(SPECIAL, 3);
-    }
     if two(datagram, 6) & 0x3fff != 0 {
-        seen.mark(SPECIAL, 4);
+        seen.mark(SPECIAL, 3);
     }
     if datagram[9] != 6 {
         return seen.mark(SPECIAL, 0);

@@ -21,7 +21,8 @@ const MIRROR: usize = 7;
 const SIZES: usize = 8;
 const KIND_OCTETS: usize = 9;
 const SIDE_OCTETS: usize = 10;
-const SPECIAL: usize = 11;
+const TAKEN: usize = 11;
+const SPECIAL: usize = 12;
 
 const LINKS: [&str; 2] = ["to A", "to B"];
 const ENDPOINTS: [&str; 4] = ["A's address", "B's address", "A's port", "B's port"];
@@ -64,6 +65,9 @@ impl Kind for Steps {
             size_table("sizes of an event"),
             Table::new("first octets of ten", 256, every(256), control_label),
             Table::new("second octets of ten", 256, every(256), control_label),
+            Table::new("places delivered, copied, lost", 3 * 32, every_place(), |v| {
+                format!("{} of place {}", ["delivery", "copy", "loss"][v / 32], v % 32)
+            }),
             Table::new("special", SPECIALS.len(), every(SPECIALS.len()), |v| {
                 SPECIALS[v].to_string()
             }),
@@ -132,6 +136,11 @@ impl Kind for Steps {
     }
 }
 
+/// All 32, but no copy of place 31: the link is full then.
+fn every_place() -> Vec<usize> {
+    (0..3 * 32).filter(|v| *v != 32 + 31).collect()
+}
+
 fn refused(case: &Case, refusal: u8) -> Stepped {
     Stepped {
         model: case.model,
@@ -172,6 +181,9 @@ fn independent(paper: &Paper, case: &Case, seen: &mut Seen) -> Stepped {
         seen.mark(SENT, sent_number(told.sent.map(|g| g.header.control)));
     }
     lists::note_drawn(&event, told.drawn, seen, DRAWN);
+    if let Event::Deliver(_, p, _) | Event::Copy(_, p) | Event::Lose(_, p) = event {
+        seen.mark(TAKEN, (case.events[0] as usize - 5) * 32 + p as usize);
+    }
     let mut tails = [Tail::new(&case.model.toa), Tail::new(&case.model.tob)];
     tails[0].follow(before.toa.count, now.toa.count);
     tails[1].follow(before.tob.count, now.tob.count);
