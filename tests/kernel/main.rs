@@ -10,6 +10,7 @@ mod bridge;
 mod captures;
 mod checks;
 mod compare;
+mod counts;
 mod opening;
 mod pcap;
 mod recovery;
