@@ -6,12 +6,15 @@
 //!     kernel --datagrams FILE      the datagrams of a capture to 10.0.0.2, back to back
 //!     kernel --show FILE           a capture as text
 
+mod acts;
 mod bridge;
 mod captures;
 mod checks;
 mod compare;
 mod counts;
+mod older;
 mod opening;
+mod pair;
 mod pcap;
 mod recovery;
 mod runner;

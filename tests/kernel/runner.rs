@@ -6,10 +6,10 @@ use crate::checks::{take_faults, Outcome};
 use crate::compare::{self, Fields, Script, Shown};
 use crate::sys::NoRig;
 use crate::world::World;
-use crate::{opening, recovery, scripts};
+use crate::{older, opening, recovery, scripts};
 use std::thread::{self, JoinHandle};
 
-const SEEDS: u64 = 10;
+const SEEDS: u64 = 20;
 /// Worlds among which the scripts are dealt out.
 const HANDS: usize = 4;
 
@@ -19,7 +19,7 @@ const SHOWN: usize = 100;
 const TRIES: usize = 3;
 
 /// What is run in a world of its own.
-type Scenario = Box<dyn Fn(&mut World) -> Outcome + Send>;
+pub type Scenario = Box<dyn Fn(&mut World) -> Outcome + Send>;
 
 /// Why a run has failed, and whether a busy machine may be the cause.
 struct Failed {
@@ -40,9 +40,11 @@ pub fn run() -> Result<(), NoRig> {
     joined(thread::spawn(|| World::new().map(|_| ())))?;
     let plain = begun(plain_scenarios());
     let bridges = bridge_runs();
+    let pairs = begun(older::all());
     let compared = thread::spawn(compared_all);
     let mut told: Vec<Line> = plain.into_iter().map(joined).collect();
     told.extend(bridges_told(bridges));
+    told.extend(pairs.into_iter().map(joined));
     told.extend(compared_told(joined(compared)));
     let failed = told.iter().filter(|line| !printed(line)).count();
     let again: usize = told.iter().map(|line| line.again.len()).sum();

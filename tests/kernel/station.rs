@@ -128,6 +128,11 @@ impl Station {
         APART * (self.drawn + 1)
     }
 
+    /// Whether the station has drawn a number.
+    pub fn drew(&self, number: u32) -> bool {
+        number % APART == 0 && (APART..self.next_number()).contains(&number)
+    }
+
     pub fn listen(&mut self) -> Result<(), String> {
         self.called("listen", tabor::listen(self.record))?;
         self.heard = (self.drawn == 0).then(Heard::default);
@@ -136,6 +141,10 @@ impl Station {
 
     pub fn open(&mut self) -> Result<Datagram, String> {
         self.called("open", tabor::open(self.record, self.next_number()))?.ok_or("the open sent nothing".into())
+    }
+
+    pub fn abort(&mut self) -> Result<Datagram, String> {
+        self.called("abort", tabor::abort(self.record))?.ok_or("the abort sent nothing".into())
     }
 
     pub fn resend(&mut self) -> Result<Datagram, String> {

@@ -179,6 +179,8 @@ pub fn reset_on_close(stream: &TcpStream) -> Result<(), String> {
 
 /// TCP_ESTABLISHED, the kernel's number for it.
 pub const INFO_ESTABLISHED: u8 = 1;
+/// TCP_CLOSE.
+pub const INFO_CLOSED: u8 = 7;
 
 /// The state of a socket by TCP_INFO, whose first octet it is.
 pub fn info_state(stream: &TcpStream) -> Result<u8, String> {

@@ -41,6 +41,15 @@ impl fmt::Display for Said {
     }
 }
 
+/// What several segments say.
+pub fn in_words(all: &[Said]) -> String {
+    let all: Vec<String> = all.iter().map(|said| said.to_string()).collect();
+    if all.is_empty() {
+        return "nothing".into();
+    }
+    all.join("; ")
+}
+
 /// The control bits by name.
 pub fn bits(control: u8) -> String {
     let names = ["FIN", "SYN", "RST", "PSH", "ACK", "URG", "ECE", "CWR"];
