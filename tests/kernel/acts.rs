@@ -65,6 +65,12 @@ fn count(opener: Opener) -> usize {
     stages(opener).len()
 }
 
+/// Whether a segment is on the way after so many acts: a SYN has left, and something is still to arrive.
+pub fn on_the_way(opener: Opener, acts: usize) -> bool {
+    let left = stages(opener)[..acts].iter().any(|(act, ..)| matches!(act, WeOpen | KernelConnects));
+    left && acts < count(opener)
+}
+
 /// A scenario before each act of each opener, and one after the last.
 pub fn for_each_act(what: &str, run: fn(&mut World, Opener, usize) -> Outcome) -> Vec<(String, Scenario)> {
     let acts = OPENERS.into_iter().flat_map(|(opener, who)| (0..=count(opener)).map(move |n| (opener, who, n)));

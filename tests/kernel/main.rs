@@ -12,6 +12,7 @@ mod captures;
 mod checks;
 mod compare;
 mod counts;
+mod cuts;
 mod older;
 mod opening;
 mod pair;

@@ -3,9 +3,9 @@
 //! segment on the way.
 
 use crate::checks::{kernel_must_be, must, must_agree, surely};
-use crate::station::{Station, APART, CLOSED, ESTABLISHED, LISTEN, SYN_RECEIVED, SYN_SENT};
+use crate::station::{closed_record, Station, APART, CLOSED, ESTABLISHED, LISTEN, SYN_RECEIVED, SYN_SENT};
 use crate::sys;
-use crate::wire::{Datagram, Said, KERNEL, SYN};
+use crate::wire::{Datagram, Said, KERNEL, OURS, SYN};
 use crate::world::{self, accepted, World};
 use std::net::{TcpListener, TcpStream};
 use std::time::Duration;
@@ -127,10 +127,24 @@ impl Pair<'_> {
         self.collect()
     }
 
+    /// Our power is cut: the record is a closed one, endpoints and window stay.
+    pub fn power_cut(&mut self) -> Result<(), String> {
+        self.world.note("our power is cut");
+        self.ours.power_cut()?;
+        let closed = self.ours.record == closed_record(OURS, KERNEL);
+        surely(closed, format!("a power cut has left {:?}", self.ours.record))
+    }
+
     /// What our station sends goes on the way.
     pub fn send(&mut self, datagram: Datagram, what: &str) {
         self.world.note(format!("{what}: {}", datagram.said));
         self.way.push(datagram);
+    }
+
+    /// What is on the way never arrives.
+    pub fn lose_all(&mut self) {
+        let lost: Vec<String> = self.way.drain(..).map(|d| d.said.to_string()).collect();
+        self.world.note(format!("lost: {}", lost.join("; ")));
     }
 
     /// What the kernel has sent, and whether it has accepted.

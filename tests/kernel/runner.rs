@@ -6,7 +6,7 @@ use crate::checks::{take_faults, Outcome};
 use crate::compare::{self, Fields, Script, Shown};
 use crate::sys::NoRig;
 use crate::world::World;
-use crate::{older, opening, recovery, scripts};
+use crate::{cuts, older, opening, recovery, scripts};
 use std::thread::{self, JoinHandle};
 
 const SEEDS: u64 = 20;
@@ -40,7 +40,7 @@ pub fn run() -> Result<(), NoRig> {
     joined(thread::spawn(|| World::new().map(|_| ())))?;
     let plain = begun(plain_scenarios());
     let bridges = bridge_runs();
-    let pairs = begun(older::all());
+    let pairs = begun([older::all(), cuts::all()].into_iter().flatten().collect());
     let compared = thread::spawn(compared_all);
     let mut told: Vec<Line> = plain.into_iter().map(joined).collect();
     told.extend(bridges_told(bridges));
