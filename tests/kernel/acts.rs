@@ -61,7 +61,7 @@ fn stages(opener: Opener) -> &'static [Stage] {
 }
 
 /// How many acts an opening has.
-fn count(opener: Opener) -> usize {
+pub fn count(opener: Opener) -> usize {
     stages(opener).len()
 }
 
@@ -69,6 +69,15 @@ fn count(opener: Opener) -> usize {
 pub fn on_the_way(opener: Opener, acts: usize) -> bool {
     let left = stages(opener)[..acts].iter().any(|(act, ..)| matches!(act, WeOpen | KernelConnects));
     left && acts < count(opener)
+}
+
+/// A scenario for each opener.
+pub fn for_each_opener(what: &str, run: fn(&mut World, Opener) -> Outcome) -> Vec<(String, Scenario)> {
+    let scenario = |(opener, who): (Opener, &str)| {
+        let scenario: Scenario = Box::new(move |world| run(world, opener));
+        (format!("{what}, {who}"), scenario)
+    };
+    OPENERS.into_iter().map(scenario).collect()
 }
 
 /// A scenario before each act of each opener, and one after the last.
@@ -95,7 +104,7 @@ pub fn play(pair: &mut Pair, acts: usize) -> Result<(), String> {
 }
 
 /// The act at this place, after which both are in the states that it leads to.
-fn play_one(pair: &mut Pair, place: usize) -> Result<(), String> {
+pub fn play_one(pair: &mut Pair, place: usize) -> Result<(), String> {
     let (act, _, ours, kernel) = stages(pair.opener)[place];
     match act {
         Deliver => deliver(pair, ours, kernel)?,

@@ -37,15 +37,20 @@ impl Tally {
 }
 
 /// splitmix64: small, and the same on every machine.
-struct Chance(u64);
+pub struct Chance(pub u64);
 
 impl Chance {
-    fn below(&mut self, bound: usize) -> usize {
+    pub fn below(&mut self, bound: usize) -> usize {
         self.0 = self.0.wrapping_add(0x9e37_79b9_7f4a_7c15);
         let mut z = self.0;
         z = (z ^ (z >> 30)).wrapping_mul(0xbf58_476d_1ce4_e5b9);
         z = (z ^ (z >> 27)).wrapping_mul(0x94d0_49bb_1331_11eb);
         ((z ^ (z >> 31)) % bound as u64) as usize
+    }
+
+    /// At least one octet, and at most so many.
+    pub fn octets(&mut self, most: usize) -> Vec<u8> {
+        (0..1 + self.below(most)).map(|_| self.below(256) as u8).collect()
     }
 }
 

@@ -18,8 +18,9 @@ pub struct Counts {
     pub checksums: u64,
 }
 
-/// One datagram with a wrong IP header.
+/// One datagram with a wrong IP header, or one to an address that is not the kernel's.
 pub const IP_HEADER: Counts = Counts { ip_headers: 1, ..NONE };
+pub const IP_ADDRESS: Counts = Counts { ip_addresses: 1, ..NONE };
 /// One segment with a wrong header length, or one with a wrong checksum.
 pub const SEGMENT: Counts = Counts { segments: 1, ..NONE };
 pub const CHECKSUM: Counts = Counts { segments: 1, checksums: 1, ..NONE };

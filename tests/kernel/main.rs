@@ -13,6 +13,7 @@ mod checks;
 mod compare;
 mod counts;
 mod cuts;
+mod foreign;
 mod older;
 mod opening;
 mod pair;
@@ -21,11 +22,15 @@ mod recovery;
 mod runner;
 mod scripts;
 mod station;
+mod strays;
+mod strays_to_kernel;
+mod strays_to_us;
 mod sys;
 #[path = "../../crates/boundary/tabor.rs"]
 mod tabor;
 mod wire;
 mod world;
+mod wrapped;
 
 use std::path::Path;
 use std::process::ExitCode;

@@ -3,6 +3,7 @@
 use crate::checks::{must, must_agree, must_say, surely, Outcome};
 use crate::counts::{CHECKSUM, IP_HEADER};
 use crate::station::{Received, Station, CLOSED, ESTABLISHED, SYN_RECEIVED};
+use crate::strays::damaged;
 use crate::sys;
 use crate::wire::{said, Datagram, ACK, IP_SIZE, RST, SYN};
 use crate::world::{accepted, kernel_connects, kernel_listens, World};
@@ -100,7 +101,7 @@ pub fn crossing(w: &mut World) -> Outcome {
 }
 
 /// The kernel closes with SO_LINGER {1, 0}: its reset closes our station.
-fn closes_with_reset(w: &mut World, ours: &mut Station, kernel: TcpStream) -> Result<(), String> {
+pub fn closes_with_reset(w: &mut World, ours: &mut Station, kernel: TcpStream) -> Result<(), String> {
     sys::reset_on_close(&kernel)?;
     drop(kernel);
     let reset = w.next("the kernel's reset")?;
@@ -132,22 +133,15 @@ pub fn damage(w: &mut World) -> Outcome {
     let syn = ours.open()?;
     for at in 0..syn.octets.len() {
         let error = if at < IP_SIZE { IP_HEADER } else { CHECKSUM };
-        w.put_octets(&damaged(&syn.octets, at), error)?;
+        w.put_octets(&damaged(&syn.octets, at, 1), error)?;
     }
     w.silent()?;
     w.put(&syn)?;
     let syn_ack = w.next("the kernel's SYN,ACK to the whole SYN")?;
     for at in IP_SIZE..syn_ack.octets.len() {
-        let received = ours.receive(&damaged(&syn_ack.octets, at))?;
+        let received = ours.receive(&damaged(&syn_ack.octets, at, 1))?;
         surely(received == Received::Refused(4), format!("octet {at} damaged, refusal 4 expected: {received}"))?;
     }
     let (sent, met) = (syn.octets.len(), syn_ack.octets.len() - IP_SIZE);
     Ok(vec![format!("the kernel passes {sent} damaged SYNs over, our station refuses {met} damaged SYN,ACKs with 4")])
-}
-
-/// The octets with one bit of one of them turned over.
-fn damaged(octets: &[u8], at: usize) -> Vec<u8> {
-    let mut octets = octets.to_vec();
-    octets[at] ^= 1;
-    octets
 }

@@ -6,7 +6,7 @@ use crate::checks::{take_faults, Outcome};
 use crate::compare::{self, Fields, Script, Shown};
 use crate::sys::NoRig;
 use crate::world::World;
-use crate::{cuts, older, opening, recovery, scripts};
+use crate::{cuts, foreign, older, opening, recovery, scripts, wrapped};
 use std::thread::{self, JoinHandle};
 
 const SEEDS: u64 = 20;
@@ -40,7 +40,7 @@ pub fn run() -> Result<(), NoRig> {
     joined(thread::spawn(|| World::new().map(|_| ())))?;
     let plain = begun(plain_scenarios());
     let bridges = bridge_runs();
-    let pairs = begun([older::all(), cuts::all()].into_iter().flatten().collect());
+    let pairs = begun([older::all(), cuts::all(), foreign::all()].into_iter().flatten().collect());
     let compared = thread::spawn(compared_all);
     let mut told: Vec<Line> = plain.into_iter().map(joined).collect();
     told.extend(bridges_told(bridges));
@@ -76,12 +76,14 @@ fn printed(line: &Line) -> bool {
 }
 
 fn plain_scenarios() -> Vec<(String, Scenario)> {
-    let scenarios: [(&str, fn(&mut World) -> Outcome); 7] = [
+    let scenarios: [(&str, fn(&mut World) -> Outcome); 9] = [
         ("the kernel connects to our station", opening::kernel_opens),
         ("our station opens to a kernel listener", opening::we_open),
         ("both open and the SYNs cross", opening::crossing),
         ("text and FIN of the kernel", opening::text_and_fin),
         ("damaged segments", opening::damage),
+        ("behind options of the IP header", wrapped::behind_options),
+        ("in fragments", wrapped::in_fragments),
         ("nine steps, our power is cut, the kernel is A", recovery::our_power_cut),
         ("nine steps, the kernel's power is cut, we are A", recovery::kernel_power_cut),
     ];

@@ -208,6 +208,12 @@ pub fn ip_summed(header: &mut [u8]) {
     header[10..12].copy_from_slice(&checksum.to_be_bytes());
 }
 
+/// Writes the checksum into a TCP segment.
+pub fn tcp_summed(src: [u8; 4], dst: [u8; 4], tcp: &mut [u8]) {
+    let checksum = tcp_checksum(src, dst, tcp);
+    tcp[16..18].copy_from_slice(&checksum.to_be_bytes());
+}
+
 /// Octets in hexadecimal, the first of them if they are many.
 pub fn hex(octets: &[u8]) -> String {
     let first: String = octets.iter().take(80).map(|octet| format!("{octet:02x}")).collect();
@@ -239,11 +245,16 @@ fn tcp_checksum(src: [u8; 4], dst: [u8; 4], tcp: &[u8]) -> u16 {
 
 /// The sums with the checksum counted; 65,535 where it is right.
 fn ip_sum(header: &[u8]) -> u16 {
-    folded(words(header))
+    octets_sum(header)
 }
 
 pub fn tcp_sum(src: [u8; 4], dst: [u8; 4], tcp: &[u8]) -> u16 {
     folded(tcp_words(src, dst, tcp))
+}
+
+/// The sum of octets that have no header of their own to add.
+pub fn octets_sum(octets: &[u8]) -> u16 {
+    folded(words(octets))
 }
 
 /// The two addresses, 6, the TCP length, and all octets.

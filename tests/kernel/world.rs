@@ -4,15 +4,16 @@
 use crate::checks::surely;
 use crate::counts::{Counts, NONE, SEGMENT};
 use crate::station::ESTABLISHED;
-use crate::sys::{self, NoRig};
+use crate::sys::{self, Device, NoRig};
 use crate::wire::{hex, Datagram, KERNEL, OURS, RST, SYN};
+use std::collections::VecDeque;
 use std::fs::{self, File};
 use std::io::{Read, Write};
 use std::net::{Ipv4Addr, TcpListener, TcpStream};
 use std::time::{Duration, Instant};
 
 /// For an answer that must come.
-const PATIENCE: Duration = Duration::from_secs(2);
+pub const PATIENCE: Duration = Duration::from_secs(2);
 /// For one that should not. The kernel answers within the write that hands it a datagram but for rare
 /// cases on a busy machine, so this is long enough to see what it says.
 const SILENCE: Duration = Duration::from_millis(20);
@@ -21,10 +22,17 @@ const SILENCE: Duration = Duration::from_millis(20);
 const KERNEL_TIMER: Duration = Duration::from_millis(800);
 
 /// The device at whose other end the rig sits.
-const DEVICE: &str = "t0";
+pub const DEVICE: &str = "t0";
 
 pub struct World {
     wire: File,
+    /// The way into the device for strays, once it was asked for; or why there is none.
+    device: Option<Result<Device, String>>,
+    /// What was read from the wire and not asked for yet: segments between the two ends, and the rest.
+    segments: VecDeque<Datagram>,
+    strays: VecDeque<Vec<u8>>,
+    /// Octets that the rig has sent through the device to our station; they need not be datagrams.
+    sent_strays: Vec<Vec<u8>>,
     /// Every segment that passed the wire, in order: what a capture keeps.
     pub passed: Vec<Datagram>,
     /// What happened, a line each: what a failure shows.
@@ -48,6 +56,10 @@ impl World {
         answer_every_time().map_err(NoRig::Refused)?;
         Ok(World {
             wire,
+            device: None,
+            segments: VecDeque::new(),
+            strays: VecDeque::new(),
+            sent_strays: Vec::new(),
             passed: Vec::new(),
             story: Vec::new(),
             on_purpose: NONE,
@@ -105,19 +117,47 @@ impl World {
         }
     }
 
-    /// The next TCP datagram from the kernel, if one comes in time. What else a kernel says on a new
-    /// device (IPv6 solicitations) is passed over.
+    /// Sends octets through the device to our station, as anything on the kernel's machine might. Where the
+    /// machine has no way into the device, they are laid where they would have come out.
+    pub fn send_octets(&mut self, octets: &[u8]) -> Result<(), String> {
+        if self.device.get_or_insert_with(|| Device::open(DEVICE)).is_err() {
+            self.strays.push_back(octets.to_vec());
+            return Ok(());
+        }
+        self.sent_strays.push(octets.to_vec());
+        self.device.iter().flatten().try_for_each(|device| device.send(octets))
+    }
+
+    /// Why strays did not go through the device, if they did not.
+    pub fn no_device(&self) -> Option<&String> {
+        self.device.as_ref()?.as_ref().err()
+    }
+
+    /// The next of what stands on the wire and is no segment between the two ends, if any comes in time.
+    pub fn stray_within(&mut self, time: Duration) -> Result<Option<Vec<u8>>, String> {
+        self.first_within(time, |world| world.strays.pop_front())
+    }
+
+    /// The next segment from the kernel, if one comes in time. What else it says, of its own (IPv6
+    /// solicitations on a new device) or of what it was sent, stays with the strays.
     pub fn next_within(&mut self, time: Duration) -> Result<Option<Datagram>, String> {
+        self.first_within(time, |world| world.segments.pop_front())
+    }
+
+    fn first_within<T>(
+        &mut self,
+        time: Duration,
+        first: impl Fn(&mut World) -> Option<T>,
+    ) -> Result<Option<T>, String> {
         let end = Instant::now() + time;
         loop {
+            if let Some(found) = first(self) {
+                return Ok(Some(found));
+            }
             if !self.readable(end.saturating_duration_since(Instant::now())) {
                 return Ok(None);
             }
-            let mut octets = [0; 2048];
-            let size = self.wire.read(&mut octets).map_err(|e| format!("read from the wire: {e}"))?;
-            if let Some(datagram) = Datagram::read(&octets[..size])? {
-                return self.segment(datagram).map(Some);
-            }
+            self.read_one()?;
         }
     }
 
@@ -134,11 +174,30 @@ impl World {
         readable
     }
 
-    fn segment(&mut self, datagram: Datagram) -> Result<Datagram, String> {
+    /// Reads the wire once.
+    fn read_one(&mut self) -> Result<(), String> {
+        let mut octets = [0; 2048];
+        let size = self.wire.read(&mut octets).map_err(|e| format!("read from the wire: {e}"))?;
+        let octets = &octets[..size];
+        if let Some(place) = self.sent_strays.iter().position(|sent| sent == octets) {
+            self.strays.push_back(self.sent_strays.remove(place));
+            return Ok(());
+        }
+        match Datagram::read(octets)? {
+            Some(datagram) if datagram.from() == KERNEL && datagram.to() == OURS => self.segment(datagram),
+            _ => {
+                self.strays.push_back(octets.to_vec());
+                Ok(())
+            }
+        }
+    }
+
+    fn segment(&mut self, datagram: Datagram) -> Result<(), String> {
         surely(datagram.is_whole(), format!("the kernel's checksum is wrong: {}", hex(&datagram.octets)))?;
         self.passed.push(datagram.clone());
         self.note(format!("{datagram}"));
-        Ok(datagram)
+        self.segments.push_back(datagram);
+        Ok(())
     }
 
     /// The next datagram from the kernel, which must come.
