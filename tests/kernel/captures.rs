@@ -3,6 +3,7 @@
 //! time of a packet is the number of the event that delivers it, in milliseconds: the calls and power cuts
 //! are the gaps. Those with the kernel are kept as they were made, since its numbers are its own.
 
+use crate::checks::must;
 use crate::compare::with_checksum;
 use crate::opening::opened_by_kernel;
 use crate::pcap::{self, Packet};
@@ -169,6 +170,7 @@ fn with_kernel(name: &str) -> Result<Vec<u8>, NoRig> {
         "handshake.pcap" => opened_by_kernel(&mut world).map(|_| ()),
         _ => our_power_cut(&mut world).map(|_| ()),
     };
+    let made = made.and(world.miscounted().map_or(Ok(()), Err));
     made.map_err(|e| NoRig::Broken(format!("{name}: {e}")))?;
     let packets = world.passed.iter().zip(1..);
     let packets = packets.map(|(d, milliseconds)| Packet { milliseconds, octets: d.octets.clone() });
@@ -252,8 +254,14 @@ fn datagrams(path: &Path) -> Result<Vec<Datagram>, String> {
 fn read_datagrams(path: &Path) -> Result<Vec<Datagram>, String> {
     let file = fs::read(path).map_err(|e| e.to_string())?;
     let packets = pcap::read(&file)?;
-    let read = packets.iter().map(|p| Datagram::read(&p.octets)?.ok_or("a packet that is no TCP over IPv4".into()));
-    read.collect()
+    packets.iter().map(|packet| whole(&packet.octets)).collect()
+}
+
+/// A packet, whose checksums must be right.
+fn whole(octets: &[u8]) -> Result<Datagram, String> {
+    let datagram = Datagram::read(octets)?.ok_or("a packet that is no TCP over IPv4")?;
+    must(datagram.is_whole(), format!("a packet with a wrong checksum: {datagram}"))?;
+    Ok(datagram)
 }
 
 /// The datagrams of a capture that are addressed to 10.0.0.2, back to back: input for 01's program.

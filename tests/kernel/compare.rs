@@ -87,7 +87,7 @@ struct Both {
 
 /// One script in a world where nothing is open, which it leaves so.
 pub fn run(w: &mut World, script: &Script) -> Result<Shown, String> {
-    w.passed.clear();
+    w.begin();
     let mut both = Both::begin(w, script.begin)?;
     let mut shown = Shown::default();
     for step in &script.steps {
@@ -201,7 +201,7 @@ impl Both {
     /// What 01 says, by the library. The number offered is the one that the kernel has drawn.
     fn paper(&mut self, datagram: &Datagram, seen: Option<&Datagram>) -> Result<Reaction, String> {
         let drawn = seen.filter(|d| d.said.control == SYN | ACK).map(|d| d.said.seq);
-        let (told, answer) = arriving(self.record, datagram, drawn.unwrap_or(7));
+        let (told, answer) = arriving(self.record, datagram, drawn.unwrap_or(7))?;
         must(told.refusal == 0, format!("the library refused {datagram} with {}", told.refusal))?;
         self.record = told.next;
         if let (1, Some(number)) = (told.drawn, drawn) {

@@ -6,21 +6,31 @@
 //!     kernel --datagrams FILE      the datagrams of a capture to 10.0.0.2, back to back
 //!     kernel --show FILE           a capture as text
 
+mod acts;
 mod bridge;
 mod captures;
 mod checks;
 mod compare;
+mod counts;
+mod cuts;
+mod foreign;
+mod older;
 mod opening;
+mod pair;
 mod pcap;
 mod recovery;
 mod runner;
 mod scripts;
 mod station;
+mod strays;
+mod strays_to_kernel;
+mod strays_to_us;
 mod sys;
 #[path = "../../crates/boundary/tabor.rs"]
 mod tabor;
 mod wire;
 mod world;
+mod wrapped;
 
 use std::path::Path;
 use std::process::ExitCode;

@@ -1,9 +1,11 @@
 //! Plain openings, from either side, and what our station refuses from a kernel.
 
-use crate::checks::{must, must_agree, must_say, Outcome};
-use crate::station::{Station, CLOSED, ESTABLISHED, SYN_RECEIVED};
+use crate::checks::{must, must_agree, must_say, surely, Outcome};
+use crate::counts::{CHECKSUM, IP_HEADER};
+use crate::station::{Received, Station, CLOSED, ESTABLISHED, SYN_RECEIVED};
+use crate::strays::damaged;
 use crate::sys;
-use crate::wire::{said, Datagram, ACK, RST, SYN};
+use crate::wire::{said, Datagram, ACK, IP_SIZE, RST, SYN};
 use crate::world::{accepted, kernel_connects, kernel_listens, World};
 use std::io::Write;
 use std::net::{TcpListener, TcpStream};
@@ -99,7 +101,7 @@ pub fn crossing(w: &mut World) -> Outcome {
 }
 
 /// The kernel closes with SO_LINGER {1, 0}: its reset closes our station.
-fn closes_with_reset(w: &mut World, ours: &mut Station, kernel: TcpStream) -> Result<(), String> {
+pub fn closes_with_reset(w: &mut World, ours: &mut Station, kernel: TcpStream) -> Result<(), String> {
     sys::reset_on_close(&kernel)?;
     drop(kernel);
     let reset = w.next("the kernel's reset")?;
@@ -110,7 +112,7 @@ fn closes_with_reset(w: &mut World, ours: &mut Station, kernel: TcpStream) -> Re
 
 /// Text and FIN of the kernel are refused with 6, and our record stays.
 pub fn text_and_fin(w: &mut World) -> Outcome {
-    let (ours, mut kernel) = opened_by_kernel(w)?;
+    let (mut ours, mut kernel) = opened_by_kernel(w)?;
     kernel.write_all(b"milk").map_err(|e| format!("write: {e}"))?;
     let text = w.next("the kernel's text")?;
     must(text.text == 4, format!("four octets of text expected, seen: {text}"))?;
@@ -123,19 +125,23 @@ pub fn text_and_fin(w: &mut World) -> Outcome {
     Ok(vec!["both refused with 6, our record stays".into()])
 }
 
-/// A segment with one wrong octet is refused with 4 by our station and passed over by the kernel.
+/// A datagram with one wrong octet, each in its turn, is passed over by the kernel, which counts them all;
+/// a segment with one wrong octet is refused with 4 by our station.
 pub fn damage(w: &mut World) -> Outcome {
     let _listener = kernel_listens()?;
     let mut ours = Station::closed();
     let syn = ours.open()?;
-    let mut octets = syn.tcp().to_vec();
-    octets[7] ^= 1;
-    w.put(&Datagram::around(syn.src, syn.dst, &octets))?;
+    for at in 0..syn.octets.len() {
+        let error = if at < IP_SIZE { IP_HEADER } else { CHECKSUM };
+        w.put_octets(&damaged(&syn.octets, at, 1), error)?;
+    }
     w.silent()?;
     w.put(&syn)?;
     let syn_ack = w.next("the kernel's SYN,ACK to the whole SYN")?;
-    let mut octets = syn_ack.tcp().to_vec();
-    octets[7] ^= 1;
-    ours.refuses(&Datagram::around(syn_ack.src, syn_ack.dst, &octets), 4)?;
-    Ok(vec!["the kernel passes a damaged SYN over, our station refuses a damaged SYN,ACK with 4".into()])
+    for at in IP_SIZE..syn_ack.octets.len() {
+        let received = ours.receive(&damaged(&syn_ack.octets, at, 1))?;
+        surely(received == Received::Refused(4), format!("octet {at} damaged, refusal 4 expected: {received}"))?;
+    }
+    let (sent, met) = (syn.octets.len(), syn_ack.octets.len() - IP_SIZE);
+    Ok(vec![format!("the kernel passes {sent} damaged SYNs over, our station refuses {met} damaged SYN,ACKs with 4")])
 }

@@ -90,7 +90,7 @@ pub fn kernel_power_cut(w: &mut World) -> Outcome {
     let mut steps = vec![format!("our station A {}, kernel B {} before the power cut", old.a, old.b)];
     // The kernel's numbers for one pair of ends grow by one in 64 ns. After 10 ms the new one is 65,536
     // and more past the old one, as demand 3 asks, and so beyond our window.
-    std::thread::sleep(Duration::from_millis(10));
+    w.pause(Duration::from_millis(10));
     let kernel = kernel_connects()?;
     let iss = it_resets_us(w, &mut ours, old, &mut steps)?;
     it_opens_anew(w, &mut ours, iss, &mut steps)?;
@@ -105,6 +105,7 @@ fn kernel_falls_silent(w: &mut World, kernel: TcpStream) -> Result<(), String> {
     let lost = w.next("the reset that is lost")?;
     must(lost.said.control & RST != 0, format!("a reset expected, seen: {lost}"))?;
     w.passed.pop();
+    w.note("it is lost");
     kernel_must_be(CLOSED)
 }
 

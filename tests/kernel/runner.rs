@@ -2,22 +2,30 @@
 //! kernel's timers overlap, and prints what they tell in a fixed order.
 
 use crate::bridge::{self, Tally};
-use crate::checks::Outcome;
+use crate::checks::{take_faults, Outcome};
 use crate::compare::{self, Fields, Script, Shown};
 use crate::sys::NoRig;
 use crate::world::World;
-use crate::{opening, recovery, scripts};
+use crate::{cuts, foreign, older, opening, recovery, scripts, wrapped};
 use std::thread::{self, JoinHandle};
-use std::time::{Duration, Instant};
 
-const SEEDS: u64 = 10;
+const SEEDS: u64 = 20;
 /// Worlds among which the scripts are dealt out.
 const HANDS: usize = 4;
 
-/// The kernel sends a SYN,ACK or SYN again after one second.
-const KERNEL_TIMER: Duration = Duration::from_millis(900);
+/// Lines of a story that a failure shows.
+const SHOWN: usize = 100;
 /// How often something is run that a busy machine has held up.
 const TRIES: usize = 3;
+
+/// What is run in a world of its own.
+pub type Scenario = Box<dyn Fn(&mut World) -> Outcome + Send>;
+
+/// Why a run has failed, and whether a busy machine may be the cause.
+struct Failed {
+    reason: String,
+    held_up: bool,
+}
 
 /// What one line of the report comes from.
 struct Line {
@@ -30,11 +38,13 @@ struct Line {
 pub fn run() -> Result<(), NoRig> {
     // Whether there is a rig at all is found out once, on a thread, so that this one stays where it is.
     joined(thread::spawn(|| World::new().map(|_| ())))?;
-    let plain = plain_scenarios();
+    let plain = begun(plain_scenarios());
     let bridges = bridge_runs();
+    let pairs = begun([older::all(), cuts::all(), foreign::all()].into_iter().flatten().collect());
     let compared = thread::spawn(compared_all);
     let mut told: Vec<Line> = plain.into_iter().map(joined).collect();
     told.extend(bridges_told(bridges));
+    told.extend(pairs.into_iter().map(joined));
     told.extend(compared_told(joined(compared)));
     let failed = told.iter().filter(|line| !printed(line)).count();
     let again: usize = told.iter().map(|line| line.again.len()).sum();
@@ -65,48 +75,74 @@ fn printed(line: &Line) -> bool {
     line.outcome.is_ok()
 }
 
-fn plain_scenarios() -> Vec<JoinHandle<Line>> {
-    let scenarios: [(&str, fn(&mut World) -> Outcome); 7] = [
+fn plain_scenarios() -> Vec<(String, Scenario)> {
+    let scenarios: [(&str, fn(&mut World) -> Outcome); 9] = [
         ("the kernel connects to our station", opening::kernel_opens),
         ("our station opens to a kernel listener", opening::we_open),
         ("both open and the SYNs cross", opening::crossing),
         ("text and FIN of the kernel", opening::text_and_fin),
         ("damaged segments", opening::damage),
+        ("behind options of the IP header", wrapped::behind_options),
+        ("in fragments", wrapped::in_fragments),
         ("nine steps, our power is cut, the kernel is A", recovery::our_power_cut),
         ("nine steps, the kernel's power is cut, we are A", recovery::kernel_power_cut),
     ];
-    scenarios.into_iter().map(|(name, scenario)| thread::spawn(move || plain_scenario(name, scenario))).collect()
+    scenarios.into_iter().map(|(name, scenario)| (name.into(), Box::new(scenario) as Scenario)).collect()
 }
 
-fn plain_scenario(name: &str, scenario: fn(&mut World) -> Outcome) -> Line {
-    let (outcome, again) = unless_held_up(|| in_new_world(scenario));
-    Line { name: name.into(), outcome, again }
+/// Scenarios, each on a thread of its own.
+fn begun(scenarios: Vec<(String, Scenario)>) -> Vec<JoinHandle<Line>> {
+    let line = |(name, scenario): (String, Scenario)| {
+        let (outcome, again) = unless_held_up(|| in_new_world(&scenario));
+        Line { name, outcome, again }
+    };
+    scenarios.into_iter().map(|scenario| thread::spawn(move || line(scenario))).collect()
 }
 
-fn in_new_world<T>(scenario: impl Fn(&mut World) -> Result<T, String>) -> Result<T, String> {
-    let mut world = World::new().map_err(NoRig::reason)?;
-    scenario(&mut world).map_err(|e| with_segments(e, &world))
+fn in_new_world<T>(scenario: impl Fn(&mut World) -> Result<T, String>) -> Result<T, Failed> {
+    let mut world = World::new().map_err(|e| Failed { reason: e.reason(), held_up: false })?;
+    let result = scenario(&mut world);
+    judged(result, &world)
 }
 
-/// A failure with all the segments that passed.
-fn with_segments(error: String, world: &World) -> String {
-    world.passed.iter().fold(error, |text, datagram| format!("{text}\n    {datagram}"))
+/// What a scenario tells, unless it has met a fault or the kernel has counted an error that was not sent on
+/// purpose: then it has failed, and no timing is the cause.
+fn judged<T>(result: Result<T, String>, world: &World) -> Result<T, Failed> {
+    let held_up = world.is_late();
+    let mut faults = take_faults();
+    faults.extend(world.miscounted());
+    if faults.is_empty() {
+        return result.map_err(|e| Failed { reason: with_story(e, world), held_up });
+    }
+    faults.extend(result.err());
+    faults.dedup();
+    Err(Failed { reason: with_story(faults.join("; "), world), held_up: false })
+}
+
+/// A failure with all that passed, or the last of it where that is much.
+fn with_story(error: String, world: &World) -> String {
+    let story = world.story();
+    let left_out = story.len().saturating_sub(SHOWN);
+    let left_out_line = (left_out > 0).then(|| format!("({left_out} lines before)"));
+    let lines = left_out_line.iter().chain(&story[left_out..]);
+    lines.fold(error, |text, line| format!("{text}\n    {line}"))
 }
 
 /// On a machine so busy that the kernel's timer runs out between two steps, its resends come in between.
-/// What fails so late is run again, and the report says so; what fails in time has failed.
-fn unless_held_up<T>(mut run: impl FnMut() -> Result<T, String>) -> (Result<T, String>, Vec<String>) {
+/// What the rig itself was too late for is run again, and the report says so. What fails otherwise has failed,
+/// also where it has waited in vain for what the kernel did not take.
+fn unless_held_up<T>(mut run: impl FnMut() -> Result<T, Failed>) -> (Result<T, String>, Vec<String>) {
     let mut again = Vec::new();
     loop {
-        let begun = Instant::now();
         match run() {
-            Err(reason) if begun.elapsed() > KERNEL_TIMER && again.len() + 1 < TRIES => again.push(reason),
-            result => return (result, again),
+            Err(failed) if failed.held_up && again.len() + 1 < TRIES => again.push(failed.reason),
+            result => return (result.map_err(|failed| failed.reason), again),
         }
     }
 }
 
-type BridgeRun = JoinHandle<(String, Result<(Vec<String>, Tally), String>)>;
+/// What a run over a bridge has shown, and why it was run again, if it was.
+type BridgeRun = JoinHandle<(String, Result<(Vec<String>, Tally), String>, Vec<String>)>;
 
 fn bridge_runs() -> Vec<BridgeRun> {
     let kernel = (1..=SEEDS).map(|seed| bridge_run("the kernel connects", seed, bridge::kernel_opens));
@@ -116,19 +152,22 @@ fn bridge_runs() -> Vec<BridgeRun> {
 
 fn bridge_run(who: &str, seed: u64, run: fn(&mut World, u64) -> Result<(Vec<String>, Tally), String>) -> BridgeRun {
     let name = format!("{who} over a bridge, seed {seed}");
-    thread::spawn(move || (name, in_new_world(|world| run(world, seed))))
+    thread::spawn(move || {
+        let (result, again) = unless_held_up(|| in_new_world(|world| run(world, seed)));
+        (name, result, again)
+    })
 }
 
 /// A line for each run, and one for what was met in all of them.
 fn bridges_told(runs: Vec<BridgeRun>) -> Vec<Line> {
     let mut all = Tally::default();
     let mut told = Vec::new();
-    for (name, result) in runs.into_iter().map(joined) {
+    for (name, result, again) in runs.into_iter().map(joined) {
         let outcome = result.map(|(lines, tally)| {
             all.add(tally);
             lines
         });
-        told.push(Line { name, outcome, again: Vec::new() });
+        told.push(Line { name, outcome, again });
     }
     let outcome = bridge::all_met(all).map(|_| vec![all.line()]);
     told.push(Line { name: format!("{} openings over a bridge", told.len()), outcome, again: Vec::new() });
@@ -160,9 +199,9 @@ fn compared_hand(hand: Vec<(usize, Script)>) -> Vec<(usize, Compared)> {
 }
 
 /// What a failed script has left open must not fail the next one, which gets another world.
-fn compared_one(world: &mut Result<World, String>, script: &Script) -> Result<Shown, String> {
-    let here = world.as_mut().map_err(|reason| reason.clone())?;
-    let result = compare::run(here, script).map_err(|e| with_segments(e, here));
+fn compared_one(world: &mut Result<World, String>, script: &Script) -> Result<Shown, Failed> {
+    let here = world.as_mut().map_err(|reason| Failed { reason: reason.clone(), held_up: false })?;
+    let result = judged(compare::run(here, script), here);
     if result.is_err() {
         *world = World::new().map_err(NoRig::reason);
     }
