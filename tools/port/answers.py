@@ -81,7 +81,7 @@ def convert(crate, folder, entry):
             rest = '\n'.join(l for l in code[1:] if not l.startswith('unfolding '))
             rest = re.sub(r'^' + re.escape(name) + r'(?=\s)', new, rest)
             rest = re.sub(r'^(' + re.escape(new) + r' (?:[^=\s]+ )*?)κs (?==)', r'\1', rest)
-            if re.fullmatch(re.escape(new) + r'( \S+)* =\s*search rules', rest.strip()):
+            if re.fullmatch(re.escape(new) + r'( \S+)* =\s*(search rules|omega arith)', rest.strip()):
                 continue
             answers.append('\n'.join(note + [f'pub {new} : goal.{new}'] + unfolding + [steps(rest, places)]))
         elif loop:

@@ -1,4 +1,5 @@
 // The program (01, "The program"): datagrams from standard input, answers to standard output.
+#![tactic(auto)]
 use libc::{STDIN_FILENO, STDOUT_FILENO};
 
 fn main() {

@@ -3,6 +3,7 @@
 // every refusal. A rule that is wrong in its definition and in its code at once is refused here. Each
 // theorem is promised by a function that does nothing, and is computed. (Those of octets are in the crate
 // octet_cases, since sums take the checker long.)
+#![tactic(auto)]
 ghost use Rattle.cases.specs.Calls.{Calls};
 ghost use Rattle.cases.specs.Arrival.{Unsynchronized, Synchronized};
 ghost use Rattle.cases.specs.Forms.{Forms};

@@ -1,5 +1,6 @@
 // IPv4 datagrams in and out: the whole program as a function from octets to octets (01, "The
 // program").
+#![tactic(auto)]
 mod layout;
 
 ghost use Rattle.std.specs.Prelude.{◌≡◌, ◌≤◌, ◌<◌, false, length, take};

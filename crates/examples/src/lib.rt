@@ -1,4 +1,5 @@
 // 01's worked examples (01, "Examples on both sides"), as one theorem about the definitions.
+#![tactic(auto)]
 ghost use Rattle.examples.specs.Spelled.{AllHold};
 ghost use Rattle.examples.specs.Examples.{examples};
 

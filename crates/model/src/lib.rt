@@ -1,4 +1,5 @@
 // Two stations with a link each way, events, and the player (01, "Two stations and their links").
+#![tactic(auto)]
 mod links;
 mod playing;
 mod stepping;

@@ -1,4 +1,5 @@
 // Structs of numbers, which cross to C by value, and the library's own records, headers, segments and models: each from the other.
+#![tactic(auto)]
 mod links;
 
 ghost use Rattle.std.specs.Prelude.{◌≡◌};

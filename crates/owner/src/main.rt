@@ -1,6 +1,7 @@
 // Owns a record, lends it to each of the lent calls and prints what comes of it, a line for each call:
 // the answer, and the record after it. The file `stdout` beside src/ was made from 01, not by this
 // program.
+#![tactic(auto)]
 ghost use Rattle.std.specs.Prelude.{◌≡◌};
 ghost use Rattle.station.specs.Calls.{open_said, listen_said, abort_said, resend_said, power_cut_said};
 ghost use Rattle.station.specs.Arrival.{arrive_said, octets_said};

@@ -1,5 +1,6 @@
 // Segments: the header's fields, reading them from octets and writing them (01, "Octets of a
 // segment"; RFC 9293, 3.1).
+#![tactic(auto)]
 ghost use Rattle.std.specs.Prelude.{◌≡◌, ◌*◌, ◌≤◌, ◌<◌, ◌^◌, [], ◌∷◌, ◌++◌, length, get_or};
 ghost use Rattle.checksum.specs.Sum.{at16};
 ghost use Rattle.segment.specs.Refusals.{number};

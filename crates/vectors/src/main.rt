@@ -1,5 +1,6 @@
 // Reads and writes the header vectors of docs/VECTORS.md and prints what it gets, a line for each.
 // The file `stdout` beside src/ was made from the papers, not by this program.
+#![tactic(auto)]
 use libc::STDOUT_FILENO;
 use segment::{Arriving, Control, Header, Reading, Refusal, Segment, Writing};
 

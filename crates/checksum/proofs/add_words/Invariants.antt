@@ -1,0 +1,15 @@
+use mathlib.Core.Path.{◌≡◌, refl, sym, ap, ◌∙◌}
+use Prim.Native.Nat.{ℕ, ◌+◌, ◌-◌, ◌%◌, ◌≤◌}
+use native.Mathlib.Omega.{arith}
+use lib.ListN.{length, drop}
+use borrow.Author.Rules.{rules}
+use Rattle.checksum.specs.Sum.{words, carried}
+use Rattle.checksum.proofs.Sums.{turn, words_last, words_done, carried_small}
+use Rattle.checksum.proofs.add_words.Given as goal
+
+-- by the work that is left: the sum so far and the words from i on come to the whole
+abbrev pub invariant-loop-i : goal.invariant-loop-i
+invariant-loop-i l = (((l.sum ≤ 65535) × (l.i % 2 ≡ 0)) × (l.i ≤ l.even)) × (carried (l.sum + words (drop l.i l.s)) ≡ carried (l.start + words l.s))
+
+abbrev pub decreases-loop-i : goal.decreases-loop-i
+decreases-loop-i l = l.even - l.i
