@@ -10,14 +10,14 @@ use segment::{Refusal, Segment};
 use station::{Outcome, Sent, Station};
 
 // What a lent call answers: a refusal, or what was sent and whether the number offered was drawn.
-#[derive(Drop)]
+#[derive(Clone, Copy)]
 pub enum Answer {
     Refused(Refusal),
     Taken(Sent, bool),
 }
 
 // The record after a call, and its answer.
-#[derive(Drop)]
+#[derive(Clone, Copy)]
 pub struct Told {
     pub station: Station,
     pub answer: Answer,

@@ -28,7 +28,7 @@ Mirrored m =
 -- the table's row 1: "record not of the forms above; a link count above 32; the two stations' endpoints do not mirror each other"
 abbrev pub model_row : Model → Row
 model_row m =
-    row 1 given-when ((record_row m.a).cause ⊎ (record_row m.b).cause ⊎ (32 < m.toa.count) ⊎ (32 < m.tob.count) ⊎ (Mirrored m → ⊥))
+    row 1 given_when ((record_row m.a).cause ⊎ (record_row m.b).cause ⊎ (32 < m.toa.count) ⊎ (32 < m.tob.count) ⊎ (Mirrored m → ⊥))
 
 -- the rows behind the first
 abbrev pub behind : List Row → List Row
@@ -41,7 +41,7 @@ call_rows m x call = model_row m ∷ behind (event_rows (station_of x m) call)
 
 -- 9: "no such place on the link"
 abbrev pub place_row : Side → Model → ℕ → Row
-place_row x m n = row 9 given-when ((toward x m).count ≤ n)
+place_row x m n = row 9 given_when ((toward x m).count ≤ n)
 
 -- "a model event offered alone tests 1 first"; "a station's own calls .. 7, 8; a model delivery 9, then 5, then 6; other link events 9, 11"
 unfoldable pub model_rows : Model → Event → List Row
@@ -51,7 +51,7 @@ model_rows m (Abort x) = call_rows m x Call.Abort
 model_rows m (Resend x) = call_rows m x Call.Resend
 model_rows m (PowerCut x) = call_rows m x Call.PowerCut
 model_rows m (Deliver x n fresh) = model_row m ∷ place_row x m n ∷ endpoint_rows (station_of x m) (at_place (toward x m) n)
-model_rows m (Copy x n) = model_row m ∷ place_row x m n ∷ row 11 given-when (32 ≤ (toward x m).count) ∷ []
+model_rows m (Copy x n) = model_row m ∷ place_row x m n ∷ row 11 given_when (32 ≤ (toward x m).count) ∷ []
 model_rows m (Lose x n) = model_row m ∷ place_row x m n ∷ []
 
 -- each refusal is given exactly when the table says, "None is given elsewhere or for another cause", and then the model is unchanged
@@ -60,7 +60,7 @@ pub record RefusalsExact : Type 0 where
   -- "A refused event changes nothing": the model that comes with its answer is the one before it
   pub unchanged : (m : Model) (e : Event) (r : Stepped) (why : Refusal) → Steps m e r → r.answer ≡ Answer.Refused why → r.model ≡ m
   -- "a whole list 1, 12": "nothing is played"
-  pub whole : (m : Model) (n : ℕ) (es : List Event) (k : ℕ) → (play_said m n es ≡ refused k) ↔ ByRows (model_row m ∷ row 12 given-when (4096 < n) ∷ []) k
+  pub whole : (m : Model) (n : ℕ) (es : List Event) (k : ℕ) → (play_said m n es ≡ refused k) ↔ ByRows (model_row m ∷ row 12 given_when (4096 < n) ∷ []) k
   pub unplayed : (m : Model) (n : ℕ) (es : List Event) (r : Played) (why : Refusal) → Plays m n es r → r.report ≡ Report.Refused why → r.model ≡ m
 
 -- "A number is drawn only by an open that is taken and by a LISTEN that takes a SYN": by a call or a delivery where its station draws

@@ -31,20 +31,20 @@ pub record WritesBack : Type 0 where
 -- the table's rows 2, 3, 4
 unfoldable pub field_rows : ℕ → ℕ → List ℕ → List Row
 field_rows src dst s =
-    row 2 given-when ((length s < 20) ⊎ (65515 < length s))
-    ∷ row 3 given-when ((header_words s < 5) ⊎ (length s < header_words s * 4))
-    ∷ row 4 given-when (sum_of src dst s ≡ 65535 → ⊥)
+    row 2 given_when ((length s < 20) ⊎ (65515 < length s))
+    ∷ row 3 given_when ((header_words s < 5) ⊎ (length s < header_words s * 4))
+    ∷ row 4 given_when (sum_of src dst s ≡ 65535 → ⊥)
     ∷ []
 
 -- "a header read 2, 3, 4, 6"
 unfoldable pub read_rows : ℕ → ℕ → List ℕ → List Row
-read_rows src dst s = field_rows src dst s ++ (row 6 given-when (((fields_at s).control.fin ≡ true) ⊎ (0 < text_length s)) ∷ [])
+read_rows src dst s = field_rows src dst s ++ (row 6 given_when (((fields_at s).control.fin ≡ true) ⊎ (0 < text_length s)) ∷ [])
 
 -- "a header write 6 (FIN on), then 10"
 unfoldable pub write_rows : Header → List ℕ → List Row
 write_rows h out =
-    row 6 given-when (h.control.fin ≡ true)
-    ∷ row 10 given-when (length out < 20)
+    row 6 given_when (h.control.fin ≡ true)
+    ∷ row 10 given_when (length out < 20)
     ∷ []
 
 -- each refusal is given exactly when the table says, "None is given elsewhere or for another cause", and then the output is unchanged

@@ -1,6 +1,7 @@
 // Segments: the header's fields, reading them from octets and writing them (01, "Octets of a
 // segment"; RFC 9293, 3.1).
 #![tactic(auto)]
+
 ghost use Rattle.std.specs.Prelude.{◌≡◌, ◌*◌, ◌≤◌, ◌<◌, ◌^◌, [], ◌∷◌, ◌++◌, length, get_or};
 ghost use Rattle.checksum.specs.Sum.{at16};
 ghost use Rattle.segment.specs.Refusals.{number};
@@ -10,7 +11,7 @@ ghost use Rattle.segment.specs.Write.{made, WriteSays};
 ghost use Rattle.segment.specs.Theorems.{ReadsBack, WritesBack, RefusalsExact, OneOutcome};
 
 // The eight control bits, high to low.
-#[derive(Drop)]
+#[derive(Clone, Copy)]
 pub struct Control {
     pub cwr: bool,
     pub ece: bool,
@@ -23,7 +24,7 @@ pub struct Control {
 }
 
 // The header's fields. Header length, reserved bits and checksum are the writer's, and no fields.
-#[derive(Drop)]
+#[derive(Clone, Copy)]
 pub struct Header {
     // Source port.
     pub source: u16,
@@ -41,7 +42,7 @@ pub struct Header {
 }
 
 // A segment: a header's fields, two addresses and a length of text.
-#[derive(Drop)]
+#[derive(Clone, Copy)]
 pub struct Segment {
     pub header: Header,
     // Source address.
@@ -52,7 +53,7 @@ pub struct Segment {
 }
 
 // What is refused. `number` has 01's number for each.
-#[derive(Drop)]
+#[derive(Clone, Copy)]
 pub enum Refusal {
     // The record is not of the forms, a link's count is above 32, or the endpoints do not mirror.
     Form,
@@ -79,21 +80,21 @@ pub enum Refusal {
 }
 
 // What a reading of a header answers.
-#[derive(Drop)]
+#[derive(Clone, Copy)]
 pub enum Reading {
     Refused(Refusal),
     Fields(Header),
 }
 
 // What a reading of arriving octets answers.
-#[derive(Drop)]
+#[derive(Clone, Copy)]
 pub enum Arriving {
     Refused(Refusal),
     Whole(Segment),
 }
 
 // What a writing of a header answers.
-#[derive(Drop)]
+#[derive(Clone, Copy)]
 pub enum Writing {
     Refused(Refusal),
     Written,
@@ -374,7 +375,7 @@ pub fn write(src: u32, dst: u32, h: Header, out: &mut [u8]) -> Writing
         return Writing::Refused(Refusal::Output);
     }
     let full = make(src, dst, h);
-    bytes::copy(&full, out);
+    out[..20].copy_from_slice(&full);
     Writing::Written
 }
 

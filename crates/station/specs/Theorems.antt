@@ -36,21 +36,21 @@ FormAt Established s = (s.una ≡ s.nxt) × (s.nxt ≡ plus s.iss 1) × (s.rcvnx
 
 -- the table's row 1
 abbrev pub record_row : Station → Row
-record_row s = row 1 given-when ((FormAt s.state s × (0 < s.rcvwnd)) → ⊥)
+record_row s = row 1 given_when ((FormAt s.state s × (0 < s.rcvwnd)) → ⊥)
 
 -- the table's rows 5 and 6
 unfoldable pub endpoint_rows : Station → Segment → List Row
 endpoint_rows s g =
-    row 5 given-when (((g.src ≡ s.peer) × (g.dst ≡ s.own) × (g.header.source ≡ s.peerport) × (g.header.destination ≡ s.ownport)) → ⊥)
-    ∷ row 6 given-when ((g.header.control.fin ≡ true) ⊎ (0 < g.text))
+    row 5 given_when (((g.src ≡ s.peer) × (g.dst ≡ s.own) × (g.header.source ≡ s.peerport) × (g.header.destination ≡ s.ownport)) → ⊥)
+    ∷ row 6 given_when ((g.header.control.fin ≡ true) ⊎ (0 < g.text))
     ∷ []
 
 -- "a station's own calls 1, 7, 8"; a segment 1, 5, 6
 unfoldable pub event_rows : Station → Event → List Row
-event_rows s (Event.Open n) = record_row s ∷ row 7 given-when (((s.state ≡ Closed) ⊎ (s.state ≡ Listen)) → ⊥) ∷ []
-event_rows s Event.Listen = record_row s ∷ row 7 given-when (s.state ≡ Closed → ⊥) ∷ []
-event_rows s Event.Abort = record_row s ∷ row 8 given-when (s.state ≡ Closed) ∷ []
-event_rows s Event.Resend = record_row s ∷ row 8 given-when (((s.state ≡ SynSent) ⊎ (s.state ≡ SynReceived)) → ⊥) ∷ []
+event_rows s (Event.Open n) = record_row s ∷ row 7 given_when (((s.state ≡ Closed) ⊎ (s.state ≡ Listen)) → ⊥) ∷ []
+event_rows s Event.Listen = record_row s ∷ row 7 given_when (s.state ≡ Closed → ⊥) ∷ []
+event_rows s Event.Abort = record_row s ∷ row 8 given_when (s.state ≡ Closed) ∷ []
+event_rows s Event.Resend = record_row s ∷ row 8 given_when (((s.state ≡ SynSent) ⊎ (s.state ≡ SynReceived)) → ⊥) ∷ []
 event_rows s Event.PowerCut = record_row s ∷ []
 event_rows s (Event.Arrive g fresh) = record_row s ∷ endpoint_rows s g
 

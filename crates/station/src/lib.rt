@@ -15,7 +15,7 @@ ghost use Rattle.station.specs.Theorems.{KeepsForms, RefusalsExact, OneOutcome, 
 
 use segment::{Arriving, Refusal, Segment};
 
-#[derive(Drop)]
+#[derive(Clone, Copy)]
 pub enum State {
     Closed,
     Listen,
@@ -25,7 +25,7 @@ pub enum State {
 }
 
 // A station's record, in the words of 01 and the RFC.
-#[derive(Drop)]
+#[derive(Clone, Copy)]
 pub struct Station {
     pub state: State,
     // The mark for "opened passively".
@@ -50,21 +50,21 @@ pub struct Station {
 }
 
 // A segment sent, or none.
-#[derive(Drop)]
+#[derive(Clone, Copy)]
 pub enum Sent {
     Nothing,
     One(Segment),
 }
 
 // A step that was taken: the next record, what was sent, and whether the number offered was drawn.
-#[derive(Drop)]
+#[derive(Clone, Copy)]
 pub struct Done {
     pub next: Station,
     pub sent: Sent,
     pub drawn: bool,
 }
 
-#[derive(Drop)]
+#[derive(Clone, Copy)]
 pub enum Outcome {
     Refused(Refusal),
     Taken(Done),
@@ -72,7 +72,7 @@ pub enum Outcome {
 
 // What can happen to a station: with a number to draw, with a whole segment and a fresh number, or
 // with nothing.
-#[derive(Drop)]
+#[derive(Clone, Copy)]
 pub enum Event {
     Open(u32),
     Listen,

@@ -1,0 +1,12 @@
+use Rattle.station.specs.Calls.{open_step}
+use borrow.Author.Rules.{rules}
+use Rattle.station.proofs.calls.open_step.Goals as goal
+
+pub returns : goal.returns
+unfolding open_step
+returns c =
+    simp (
+      ← c.drawing.ensures,
+      ← c.syn.ensures,
+      ← c.syn_sent-next.ensures,
+    )

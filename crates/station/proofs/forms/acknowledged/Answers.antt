@@ -1,0 +1,9 @@
+use Rattle.station.specs.Forms.{acknowledged}
+use borrow.Author.Rules.{rules}
+use Rattle.station.proofs.forms.acknowledged.Goals as goal
+
+pub returns : goal.returns
+unfolding acknowledged
+returns c =
+    simp
+    (← c.add-next.ensures)

@@ -1,0 +1,12 @@
+use Rattle.station.specs.Forms.{established_of}
+use borrow.Author.Rules.{rules}
+use Rattle.station.proofs.forms.established.Goals as goal
+
+pub returns : goal.returns
+unfolding established_of
+returns c =
+    simp (
+      ← c.with.ensures,
+      ← c.add.ensures,
+      ← c.add-next.ensures,
+    )

@@ -1,0 +1,9 @@
+use Rattle.station.specs.Forms.{formed}
+use borrow.Author.Rules.{rules}
+use Rattle.station.proofs.forms.formed.Goals as goal
+
+pub returns : goal.returns
+unfolding formed
+returns c =
+    simp
+    (← c.form_at.ensures)

@@ -1,0 +1,9 @@
+use borrow.Author.Rules.{rules}
+use Rattle.station.proofs.forms.is.Goals as goal
+
+pub returns : goal.returns
+returns c =
+    simp (
+      ← c.place-2.ensures,
+      ← c.place.ensures,
+    )
