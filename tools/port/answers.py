@@ -33,12 +33,27 @@ def blocks(text):
     return out
 
 
-def steps(body, places):
+def arms(goal, body):
+    """What an arm knows stands under the arm today; a test of `!x` says what `x` is."""
+    found = re.search(r'-in-([A-Z]\w*)', goal)
+    def arm(m):
+        own = re.search(r'-in-([A-Z]\w*)', m.group(1)) or found
+        return own.group(1) if own else None
+    def call(m):
+        return f'c.in-{arm(m)}.ensures' if arm(m) else m.group()
+    def value(m):
+        return f'c.in-{arm(m)}.is' if arm(m) else m.group()
+    body = re.sub(r'\(?rw c\.([\w\-]+?)-1\.given\.1 at c\.[\w\-]+\.ensures\)?', call, body)
+    body = re.sub(r'c\.([\w\-]+?)-1\.given\.1', value, body)
+    return re.sub(r'not-(?:false|true) _ (c\.if-not-[\w\-]+\.(?:false|true))', r'\1', body)
+
+
+def steps(goal, body, places):
     """Paths by the steps' new names, without the walk back through `before`."""
     body = re.sub(r'(?:\.before)+(?=[\s.)\],;]|$)', '', body)
     def one(m):
         return m.group(1) + '.' + places.get(dashed(m.group(2)), m.group(2))
-    return re.sub(r'(?<![\w.\-])(c|w|p|b)\.([A-Za-z0-9_\-]+)', one, body)
+    return arms(goal, re.sub(r'(?<![\w.\-])(c|w|p|b)\.([A-Za-z0-9_\-]+)', one, body))
 
 
 def convert(crate, folder, entry):
@@ -81,9 +96,9 @@ def convert(crate, folder, entry):
             rest = '\n'.join(l for l in code[1:] if not l.startswith('unfolding '))
             rest = re.sub(r'^' + re.escape(name) + r'(?=\s)', new, rest)
             rest = re.sub(r'^(' + re.escape(new) + r' (?:[^=\s]+ )*?)κs (?==)', r'\1', rest)
-            if re.fullmatch(re.escape(new) + r'( \S+)* =\s*(search rules|omega arith)', rest.strip()):
+            if not unfolding and re.fullmatch(re.escape(new) + r'( \S+)* =\s*(search rules|omega arith)', rest.strip()):
                 continue
-            answers.append('\n'.join(note + [f'pub {new} : goal.{new}'] + unfolding + [steps(rest, places)]))
+            answers.append('\n'.join(note + [f'pub {new} : goal.{new}'] + unfolding + [steps(new, rest, places)]))
         elif loop:
             which, old = loop.groups()
             if dashed(old) not in loops:

@@ -1,6 +1,7 @@
 // One station: its record, the calls on it, and segments and octets that arrive (01, "A station's
 // record", "Calls and power", "Arrival, check by check").
 #![tactic(auto)]
+
 mod arrival;
 mod calls;
 pub mod forms;

@@ -16,11 +16,11 @@ returns-then-not-formed c =
 pub returns-in-Refused : goal.returns-in-Refused
 returns-in-Refused c =
     let start = c in
-    let formed = sym start.formed.ensures ∙ not-false _ c.if-not-formed.false in
-    octets_refused _ _ _ _ _ formed _ (rw c.arriving-1.given.1 at c.fields_with_text-arriving.ensures)
+    let formed = sym start.formed.ensures ∙ c.if-not-formed.false in
+    octets_refused _ _ _ _ _ formed _ c.in-Refused.ensures
 
 pub returns-in-Whole : goal.returns-in-Whole
 returns-in-Whole c =
     let start = c in
-    let formed = sym start.formed.ensures ∙ not-false _ c.if-not-formed.false in
-    c.arrive.ensures ∙ octets_passed _ _ _ _ _ formed _ (rw c.arriving-in-Whole-1.given.1 at c.fields_with_text-arriving.ensures)
+    let formed = sym start.formed.ensures ∙ c.if-not-formed.false in
+    c.arrive.ensures ∙ octets_passed _ _ _ _ _ formed _ c.in-Whole.ensures

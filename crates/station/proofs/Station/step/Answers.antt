@@ -7,7 +7,7 @@ unfolding event_said
 returns-in-Open c =
     simp (
       ← c.«open».ensures,
-      c.e-1.given.1,
+      c.in-Open.is,
     )
 
 pub returns-in-Listen : goal.returns-in-Listen
@@ -15,7 +15,7 @@ unfolding event_said
 returns-in-Listen c =
     simp (
       ← c.listen.ensures,
-      c.enum_told-1.given.1,
+      c.in-Listen.is,
     )
 
 pub returns-in-Abort : goal.returns-in-Abort
@@ -23,7 +23,7 @@ unfolding event_said
 returns-in-Abort c =
     simp (
       ← c.abort.ensures,
-      c.enum_told-in-Abort-1.given.1,
+      c.in-Abort.is,
     )
 
 pub returns-in-Resend : goal.returns-in-Resend
@@ -31,7 +31,7 @@ unfolding event_said
 returns-in-Resend c =
     simp (
       ← c.resend.ensures,
-      c.enum_told-in-Resend-1.given.1,
+      c.in-Resend.is,
     )
 
 pub returns-in-PowerCut : goal.returns-in-PowerCut
@@ -39,7 +39,7 @@ unfolding event_said
 returns-in-PowerCut c =
     simp (
       ← c.power_cut.ensures,
-      c.enum_told-in-PowerCut-1.given.1,
+      c.in-PowerCut.is,
     )
 
 pub returns-in-Arrive : goal.returns-in-Arrive
@@ -47,5 +47,5 @@ unfolding event_said
 returns-in-Arrive c =
     simp (
       ← c.arrive.ensures,
-      c.e-in-Arrive-1.given.1,
+      c.in-Arrive.is,
     )

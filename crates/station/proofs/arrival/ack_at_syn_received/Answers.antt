@@ -1,5 +1,5 @@
+use borrow.Author.Tests.{eq-eqb, ne_eqb}
 use Rattle.station.specs.Arrival.{ack_at_syn_received}
-use borrow.Author.Rules.{rules}
 use Rattle.station.proofs.arrival.ack_at_syn_received.Goals as goal
 
 pub returns-then-right : goal.returns-then-right
@@ -8,7 +8,7 @@ returns-then-right c =
     simp (
       ← c.quiet.ensures,
       ← c.established.ensures,
-      c.if-right.true,
+      eq-eqb _ _ c.if-right.true,
       ← c.add.ensures,
     )
 
@@ -18,6 +18,6 @@ returns c =
     simp (
       ← c.one.ensures,
       ← c.reply_reset.ensures,
-      c.if-right.false,
+      ne_eqb _ _ c.if-right.false,
       ← c.add.ensures,
     )

@@ -7,7 +7,7 @@ unfolding arrival_at
 returns-in-Closed c =
     simp (
       ← c.at_closed.ensures,
-      c.enum_told-1.given.1,
+      c.in-Closed.is,
     )
 
 pub returns-in-Listen : goal.returns-in-Listen
@@ -15,7 +15,7 @@ unfolding arrival_at
 returns-in-Listen c =
     simp (
       ← c.at_listen.ensures,
-      c.enum_told-in-Listen-1.given.1,
+      c.in-Listen.is,
     )
 
 pub returns-in-SynSent : goal.returns-in-SynSent
@@ -23,7 +23,7 @@ unfolding arrival_at
 returns-in-SynSent c =
     simp (
       ← c.at_syn_sent.ensures,
-      c.enum_told-in-SynSent-1.given.1,
+      c.in-SynSent.is,
     )
 
 pub returns-in-SynReceived : goal.returns-in-SynReceived
@@ -31,7 +31,7 @@ unfolding arrival_at
 returns-in-SynReceived c =
     simp (
       ← c.at_synchronized.ensures,
-      c.enum_told-in-SynReceived-1.given.1,
+      c.in-SynReceived.is,
     )
 
 pub returns-in-Established : goal.returns-in-Established
@@ -39,5 +39,5 @@ unfolding arrival_at
 returns-in-Established c =
     simp (
       ← c.at_synchronized-in-Established.ensures,
-      c.enum_told-in-Established-1.given.1,
+      c.in-Established.is,
     )

@@ -7,7 +7,7 @@ unfolding form_at
 returns-in-Closed c =
     simp (
       ← c.zeroed.ensures,
-      c.enum_told-1.given.1,
+      c.in-Closed.is,
     )
 
 pub returns-in-Listen : goal.returns-in-Listen
@@ -15,7 +15,7 @@ unfolding form_at
 returns-in-Listen c =
     simp (
       ← c.zeroed-in-Listen.ensures,
-      c.enum_told-in-Listen-1.given.1,
+      c.in-Listen.is,
     )
 
 pub returns-in-SynSent : goal.returns-in-SynSent
@@ -23,7 +23,7 @@ unfolding form_at
 returns-in-SynSent c =
     simp (
       ← c.opening.ensures,
-      c.enum_told-in-SynSent-1.given.1,
+      c.in-SynSent.is,
     )
 
 pub returns-in-SynReceived : goal.returns-in-SynReceived
@@ -32,7 +32,7 @@ returns-in-SynReceived c =
     simp (
       ← c.synchronized.ensures,
       ← c.opening-in-SynReceived.ensures,
-      c.enum_told-in-SynReceived-1.given.1,
+      c.in-SynReceived.is,
     )
 
 pub returns-in-Established : goal.returns-in-Established
@@ -41,5 +41,5 @@ returns-in-Established c =
     simp (
       ← c.synchronized-in-Established.ensures,
       ← c.acknowledged.ensures,
-      c.enum_told-in-Established-1.given.1,
+      c.in-Established.is,
     )
