@@ -90,10 +90,11 @@ def convert(crate, folder, entry):
         if need:
             old = need.group(1)
             new = goals.get(dashed(old)) or goals.get(re.sub('^overflow-', '', dashed(old)))
-            if not new:
-                return 'no goal ' + old
             unfolding = [l for l in code[1:] if l.startswith('unfolding ')]
             rest = '\n'.join(l for l in code[1:] if not l.startswith('unfolding '))
+            if not new:
+                print(f'no goal {old} in {folder}:\n{steps(old, rest, places)}')
+                continue
             rest = re.sub(r'^' + re.escape(name) + r'(?=\s)', new, rest)
             rest = re.sub(r'^(' + re.escape(new) + r' (?:[^=\s]+ )*?)κs (?==)', r'\1', rest)
             if not unfolding and re.fullmatch(re.escape(new) + r'( \S+)* =\s*(search rules|omega arith)', rest.strip()):

@@ -97,7 +97,7 @@ pub(crate) fn write(g: Segment, out: &mut [u8])
     ensures { out.new ≡ datagram_of g ++ drop 40 out.old }
 {
     let ip = header_with(g, header_checksum(g));
-    bytes::copy(&ip, out);
+    out[..20].copy_from_slice(&ip);
     let header = g.header;
     segment::write(g.src, g.dst, header, &mut out[20..]);
 }

@@ -1,6 +1,7 @@
 // IPv4 datagrams in and out: the whole program as a function from octets to octets (01, "The
 // program").
 #![tactic(auto)]
+
 mod layout;
 
 ghost use Rattle.std.specs.Prelude.{◌≡◌, ◌≤◌, ◌<◌, false, length, take};
@@ -14,7 +15,7 @@ ghost use Rattle.datagram.specs.Theorems.{NeverOutgrows, CutShort, OneOutcome, E
 use station::{Outcome, Sent, State, Station};
 
 // What a datagram leads to: the station, how many numbers were drawn, and what is sent.
-#[derive(Drop)]
+#[derive(Clone, Copy)]
 struct Hearing {
     station: Station,
     drawn: u32,
@@ -105,7 +106,7 @@ fn heard_in_frame(station: Station, drawn: u32, s: &[u8]) -> Hearing
 {
     let size = layout::total_size(s);
     let mut frame = [0u8; 1500];
-    bytes::copy(&s[..size], &mut frame);
+    frame[..size].copy_from_slice(&s[..size]);
     heard(station, drawn, &frame)
 }
 

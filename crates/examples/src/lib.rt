@@ -1,5 +1,6 @@
 // 01's worked examples (01, "Examples on both sides"), as one theorem about the definitions.
 #![tactic(auto)]
+
 ghost use Rattle.examples.specs.Spelled.{AllHold};
 ghost use Rattle.examples.specs.Examples.{examples};
 

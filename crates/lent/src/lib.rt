@@ -1,6 +1,7 @@
 // "The station record is lent by its owner and updated there" (01, "A station's record", "What form
 // each place takes").
 #![tactic(auto)]
+
 ghost use Rattle.station.specs.Outcomes.{said};
 ghost use Rattle.station.specs.Calls.{open_said, listen_said, abort_said, resend_said, power_cut_said};
 ghost use Rattle.station.specs.Arrival.{arrive_said, octets_said};

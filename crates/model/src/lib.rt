@@ -1,5 +1,6 @@
 // Two stations with a link each way, events, and the player (01, "Two stations and their links").
 #![tactic(auto)]
+
 mod links;
 mod playing;
 mod stepping;
@@ -13,21 +14,21 @@ use segment::{Refusal, Segment};
 use station::{Sent, Station};
 
 // One of the two stations.
-#[derive(Drop)]
+#[derive(Clone, Copy)]
 pub enum Side {
     A,
     B,
 }
 
 // A link: the first count slots hold segments, in the order sent.
-#[derive(Drop)]
+#[derive(Clone, Copy)]
 pub struct Link {
     pub slots: [Segment; 32],
     pub count: usize,
 }
 
 // Two stations, the link towards A and the link towards B.
-#[derive(Drop)]
+#[derive(Clone, Copy)]
 pub struct Model {
     pub a: Station,
     pub b: Station,
@@ -37,7 +38,7 @@ pub struct Model {
 
 // What can happen: the calls of a station and its power cut; a delivery to a station, by place on the
 // link towards it and with a fresh number; a copy and a loss on that link.
-#[derive(Drop)]
+#[derive(Clone, Copy)]
 pub enum Event {
     Open(Side, u32),
     Listen(Side),
@@ -51,42 +52,42 @@ pub enum Event {
 
 // An event that was taken: what the station sent, whether it drew the number offered, and whether
 // what it sent was turned away.
-#[derive(Drop)]
+#[derive(Clone, Copy)]
 pub struct Told {
     pub sent: Sent,
     pub drawn: bool,
     pub turned: bool,
 }
 
-#[derive(Drop)]
+#[derive(Clone, Copy)]
 pub enum Answer {
     Refused(Refusal),
     Taken(Told),
 }
 
 // The model after an event, and its answer: after a refusal the model that came in.
-#[derive(Drop)]
+#[derive(Clone, Copy)]
 pub struct Stepped {
     pub model: Model,
     pub answer: Answer,
 }
 
 // How many events were taken and refused, and how many segments were turned away.
-#[derive(Drop)]
+#[derive(Clone, Copy)]
 pub struct Totals {
     pub taken: usize,
     pub refused: usize,
     pub turned: usize,
 }
 
-#[derive(Drop)]
+#[derive(Clone, Copy)]
 pub enum Report {
     Refused(Refusal),
     Played(Totals),
 }
 
 // The model after a list, and the player's report: after a refusal the model that came in.
-#[derive(Drop)]
+#[derive(Clone, Copy)]
 pub struct Played {
     pub model: Model,
     pub report: Report,

@@ -13,7 +13,7 @@ use station::{State, Station};
 // A station's record in numbers. State: 0 CLOSED, 1 LISTEN, 2 SYN-SENT, 3 SYN-RECEIVED,
 // 4 ESTABLISHED. The mark "opened passively": 0 no, 1 yes.
 #[repr(C)]
-#[derive(Drop)]
+#[derive(Clone, Copy)]
 pub struct Record {
     pub iss: u32,
     pub una: u32,
@@ -31,7 +31,7 @@ pub struct Record {
 
 // A header's fields in numbers, the control bits as their octet.
 #[repr(C)]
-#[derive(Drop)]
+#[derive(Clone, Copy)]
 pub struct Header {
     pub seq: u32,
     pub ack: u32,
@@ -44,7 +44,7 @@ pub struct Header {
 
 // A segment: a header's fields, two addresses and a length of text.
 #[repr(C)]
-#[derive(Drop)]
+#[derive(Clone, Copy)]
 pub struct Segment {
     pub header: Header,
     pub src: u32,
@@ -54,7 +54,7 @@ pub struct Segment {
 
 // A link: the first count slots hold segments, in the order sent.
 #[repr(C)]
-#[derive(Drop)]
+#[derive(Clone, Copy)]
 pub struct Link {
     pub slots: [Segment; 32],
     pub count: usize,
@@ -62,7 +62,7 @@ pub struct Link {
 
 // Two stations, the link towards A and the link towards B.
 #[repr(C)]
-#[derive(Drop)]
+#[derive(Clone, Copy)]
 pub struct Model {
     pub a: Record,
     pub b: Record,

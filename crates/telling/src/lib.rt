@@ -15,7 +15,7 @@ use station::{Outcome, Sent};
 // What a call tells. A refusal has 01's number, 0 for none, and then the record that came in, nothing
 // sent and nothing drawn. Where nothing is sent the segment is zero.
 #[repr(C)]
-#[derive(Drop)]
+#[derive(Clone, Copy)]
 pub struct Told {
     pub next: Record,
     pub segment: Segment,
@@ -26,7 +26,7 @@ pub struct Told {
 
 // What a header read tells: the fields, or 01's number and zero.
 #[repr(C)]
-#[derive(Drop)]
+#[derive(Clone, Copy)]
 pub struct Reading {
     pub header: Header,
     pub refusal: u8,
@@ -35,7 +35,7 @@ pub struct Reading {
 // What one event tells: as a call does, and whether what was sent was turned away. After a refusal the
 // model that came in, and zero.
 #[repr(C)]
-#[derive(Drop)]
+#[derive(Clone, Copy)]
 pub struct Stepped {
     pub model: Model,
     pub segment: Segment,
@@ -47,7 +47,7 @@ pub struct Stepped {
 
 // What the player tells: after a refusal the model that came in and no totals.
 #[repr(C)]
-#[derive(Drop)]
+#[derive(Clone, Copy)]
 pub struct Played {
     pub model: Model,
     pub taken: usize,

@@ -1,0 +1,9 @@
+use Rattle.model.specs.Links.{removed}
+use borrow.Author.Rules.{rules}
+use Rattle.model.proofs.links.removed.Goals as goal
+
+pub returns : goal.returns
+unfolding removed
+returns c =
+    simp
+    (← c.moved_up.ensures)

@@ -1,0 +1,15 @@
+use Rattle.model.specs.Step.{toward}
+use borrow.Author.Rules.{rules}
+use Rattle.model.proofs.stepping.toward.Goals as goal
+
+pub returns-in-A : goal.returns-in-A
+unfolding toward
+returns-in-A c =
+    simp
+    c.in-A.is
+
+pub returns-in-B : goal.returns-in-B
+unfolding toward
+returns-in-B c =
+    simp
+    c.in-B.is
