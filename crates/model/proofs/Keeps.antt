@@ -131,7 +131,7 @@ after_ok m (given x) s h = h x refl
 run_ok : (p : Run) (es : List Event) → Ok p.model → Ok (run p es).model
 unfolding run counted
 run_ok p [] s = s
-run_ok p (e ∷ es) s = run_ok _ es (after_ok p.model (step_said p.model e) s (event_ok p.model e))
+run_ok p (e ∷ es) s = run_ok (counted p (step_said p.model e)) es (after_ok p.model (step_said p.model e) s (event_ok p.model e))
 
 abbrev Plays : Said Run → Type 0
 Plays y = (p : Run) → y ≡ given p → Ok p.model

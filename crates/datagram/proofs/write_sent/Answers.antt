@@ -10,7 +10,7 @@ pub write-requires : goal.write-requires
 unfolding datagrams_of
 write-requires c =
     let g = c.sent-1.given.0.0 in
-    let pre = rw c.sent-1.given.1 at c.requires in
+    let pre = rw c.in-One.is at c.requires in
     (omega (arith, ap length (one_sent g), datagram_size g, pre.0), pre.1)
 
 pub returns-in-Nothing : goal.returns-in-Nothing

@@ -7,6 +7,7 @@ use Rattle.model.specs.Links.{blank}
 use Rattle.model.proofs.Shift.{shifted, shift_start, shift_more, shift_last}
 use Rattle.model.proofs.links.moved_up.Given as goal
 
+-- The loop's invariant: the stores below place i are made.
 abbrev pub invariant-loop-i : goal.invariant-loop-i
 invariant-loop-i l = ((l.n ≤ l.i) × (l.i < 32)) × (l.next ≡ shifted l.n l.slots blank l.i)
 

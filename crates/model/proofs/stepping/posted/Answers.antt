@@ -11,7 +11,7 @@ returns-then-full c =
       ← c.full.ensures,
       ← c.toward-l.ensures,
       ← c.peer_of-peer.ensures,
-      c.sent-1.given.1,
+      c.in-One.is,
     )
     c.taken-then-full.ensures
 
@@ -34,6 +34,6 @@ returns-else-full c =
       ← c.full.ensures,
       ← c.toward-l.ensures,
       ← c.peer_of-peer.ensures,
-      c.sent-1.given.1,
+      c.in-One.is,
     )
     (retold c.taken-in-One.ensures)
