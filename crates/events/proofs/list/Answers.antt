@@ -8,8 +8,6 @@ use Rattle.events.specs.Lists.{event_at, events_at}
 use Rattle.events.proofs.Listed.{limits, no_events, filled_next, behind_next, filled_all}
 use Rattle.events.proofs.list.Goals as goal
 
--- The loop's invariant: the places below i have their events, those from i on are as they were.
-
 pub loop-i-init : goal.loop-i-init
 loop-i-init c =
     let h = limits c.args.s.now _ (rw c.count.ensures at c.within-n.ensures) in

@@ -8,6 +8,7 @@ use Rattle.numbers.specs.Numbers.{segment_numbers}
 use Rattle.numbers.proofs.Filled.{mapped_next, mapped_all}
 use Rattle.numbers.proofs.links.slot_numbers.Given as goal
 
+-- The loop's invariant: the places below i are filled.
 abbrev pub invariant-loop-i : goal.invariant-loop-i
 invariant-loop-i l = ((l.i ≤ 32) × (length l.next ≡ 32)) × (take l.i l.next ≡ map segment_numbers (take l.i l.slots))
 
