@@ -1,9 +1,8 @@
 -- A station's calls and arrivals in numbers (01, "Calls and power", "Arrival, check by check"; docs/DECISIONS.md, "The boundary in numbers").
-use Rattle.std.specs.Prelude.{ℕ, ◌≡◌, not, List, [], ◌∷◌, ◌++◌, length, drop, ltb}
+use Rattle.std.specs.Prelude.{ℕ, ◌≡◌, not, List, [], ◌∷◌, ◌++◌, length, drop, ltb, if◌then◌else◌}
 use Rattle.segment.specs.declared.Segment.{Segment as SegmentSegment}
 use Rattle.segment.specs.Refusals.{Said, refused, given}
 use Rattle.segment.specs.Write.{made}
-use Rattle.station.specs.Forms.{if◌then◌else◌}
 use Rattle.station.specs.Outcomes.{Step}
 use Rattle.station.specs.Arrival.{octets_said}
 use Rattle.station.specs.Events.{event_said}

@@ -1,7 +1,6 @@
 -- The player in numbers (01, "Two stations and their links"; docs/DECISIONS.md, "The boundary in numbers").
-use Rattle.std.specs.Prelude.{ℕ, not, List}
+use Rattle.std.specs.Prelude.{ℕ, not, List, if◌then◌else◌}
 use Rattle.segment.specs.Refusals.{Said, refused}
-use Rattle.station.specs.Forms.{if◌then◌else◌}
 use Rattle.model.specs.Step.{Moved, step_said}
 use Rattle.model.specs.Play.{Run, play_said}
 use Rattle.numbers.specs.Links.{both_known, model_of}

@@ -1,6 +1,7 @@
 // The proved station for firmware in C or Rust: numbers, structs of numbers by value, and octets.
 // `tabor.h` beside this crate has the same for C.
 #![tactic(auto)]
+
 mod answering;
 
 ghost use Rattle.std.specs.Prelude.{◌≡◌};

@@ -1,10 +1,9 @@
 -- The whole program, octets to octets (01, "The program").
-use Rattle.std.specs.Prelude.{ℕ, zero, suc, ◌+◌, ◌*◌, true, not, List, [], ◌∷◌, ◌++◌, length, take, drop, eqb}
+use Rattle.std.specs.Prelude.{ℕ, zero, suc, ◌+◌, ◌*◌, true, not, List, [], ◌∷◌, ◌++◌, length, take, drop, eqb, if◌then◌else◌}
 use Rattle.segment.specs.declared.Segment.{Segment}
 use Rattle.segment.specs.Refusals.{Said, refused, given}
 use Rattle.station.specs.declared.State.TheVariants.{Listen}
 use Rattle.station.specs.declared.Station.{Station}
-use Rattle.station.specs.Forms.{if◌then◌else◌}
 use Rattle.station.specs.Outcomes.{Step}
 use Rattle.station.specs.Arrival.{octets_said}
 use Rattle.datagram.specs.Layout.{total_size, protocol, source_address, destination_address, carried_by, stops_at, datagram_of}

@@ -4,8 +4,7 @@
 
 mod layout;
 
-ghost use Rattle.std.specs.Prelude.{◌≡◌, ◌≤◌, ◌<◌, false, length, take};
-ghost use Rattle.station.specs.Forms.{if◌then◌else◌};
+ghost use Rattle.std.specs.Prelude.{◌≡◌, ◌≤◌, ◌<◌, false, length, take, if◌then◌else◌};
 ghost use Rattle.station.specs.Outcomes.{segments, said};
 ghost use Rattle.datagram.specs.Layout.{stops_at};
 ghost use Rattle.datagram.specs.Program.{listener, datagrams_of, heard_by, answers, output};

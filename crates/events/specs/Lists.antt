@@ -1,7 +1,6 @@
 -- Events in octets, ten to an event: kind 1, side 1, place 4, number 4, high octet first (docs/DECISIONS.md, "Events in octets").
-use Rattle.std.specs.Prelude.{ℕ, zero, suc, ◌/◌, ◌%◌, Bool, true, ◌&&◌, List, [], ◌∷◌, ◌++◌, length, get_or, drop, replicate, eqb, ltb}
+use Rattle.std.specs.Prelude.{ℕ, zero, suc, ◌/◌, ◌%◌, Bool, true, ◌&&◌, List, [], ◌∷◌, ◌++◌, length, get_or, drop, replicate, eqb, ltb, if◌then◌else◌}
 use Rattle.segment.specs.Octets.{four, at32}
-use Rattle.station.specs.Forms.{if◌then◌else◌}
 use Rattle.model.specs.declared.Side.{Side}
 use Rattle.model.specs.declared.Side.TheVariants.{A, B}
 use Rattle.model.specs.declared.Event.{Event}

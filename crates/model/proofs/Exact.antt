@@ -1,4 +1,5 @@
 -- Refusals are given exactly when the table says. Assumes nothing.
+use Rattle.std.specs.Prelude.{if◌then◌else◌}
 use Prim.Native.Nat.{ℕ, ◌≤◌, ◌<◌}
 use mathlib.Core.Path.{◌≡◌, refl, sym, ap, ◌∙◌}
 use mathlib.Core.Bool.{Bool, true, false, not, ◌&&◌}
@@ -10,7 +11,7 @@ use borrow.Author.Tests.{ltb-false, leb-false, le-ltb, lt-leb, not-true, not-fal
 use Rattle.segment.specs.declared.Refusal.{Refusal}
 use Rattle.segment.specs.Refusals.{number, Said, refused, given, Row, ByRows}
 use Rattle.segment.proofs.Tests.{false_true, below, same, negated, both}
-use Rattle.station.specs.Forms.{if◌then◌else◌, formed}
+use Rattle.station.specs.Forms.{formed}
 use Rattle.station.specs.Outcomes.{Step}
 use Rattle.station.specs.Events.{event_said}
 use Rattle.station.specs.Theorems.{record_row, event_rows}

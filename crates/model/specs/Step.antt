@@ -1,10 +1,10 @@
 -- One event of the model (01, "Two stations and their links"; its table, "Who meets which").
-use Rattle.std.specs.Prelude.{ℕ, ◌≡◌, Bool, true, false, not, ◌&&◌, List, [], ◌∷◌, eqb, leb}
+use Rattle.std.specs.Prelude.{ℕ, ◌≡◌, Bool, true, false, not, ◌&&◌, List, [], ◌∷◌, eqb, leb, if◌then◌else◌}
 use Rattle.segment.specs.declared.Segment.{Segment}
 use Rattle.segment.specs.Refusals.{number, Said, refused, given}
 use Rattle.station.specs.declared.Station.{Station}
 use Rattle.station.specs.declared.Event.TheVariants as Station
-use Rattle.station.specs.Forms.{if◌then◌else◌, formed}
+use Rattle.station.specs.Forms.{formed}
 use Rattle.station.specs.Outcomes.{Step, segments}
 use Rattle.station.specs.Events.{event_said}
 use Rattle.model.specs.Links.{full, has_place, at_place, pushed, removed}

@@ -1,7 +1,6 @@
 // The player (01, "Two stations and their links").
-ghost use Rattle.std.specs.Prelude.{◌≡◌, ◌<◌, ◌≤◌, take};
+ghost use Rattle.std.specs.Prelude.{◌≡◌, ◌<◌, ◌≤◌, take, if◌then◌else◌};
 ghost use Rattle.segment.specs.Refusals.{number, refused, given};
-ghost use Rattle.station.specs.Forms.{if◌then◌else◌};
 ghost use Rattle.model.specs.Step.{said_answer};
 ghost use Rattle.model.specs.Play.{tallied, run, begun, Reports};
 

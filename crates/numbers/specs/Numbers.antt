@@ -1,12 +1,12 @@
 -- Records, headers and segments as structs of numbers (docs/DECISIONS.md, "The boundary in numbers").
-use Rattle.std.specs.Prelude.{ℕ, Bool, ◌&&◌, eqb, ltb}
+use Rattle.std.specs.Prelude.{ℕ, Bool, ◌&&◌, eqb, ltb, if◌then◌else◌}
 use Rattle.segment.specs.declared.Header.{Header as SegmentHeader}
 use Rattle.segment.specs.declared.Segment.{Segment as SegmentSegment}
 use Rattle.segment.specs.Octets.{control_at, control_octet}
 use Rattle.station.specs.declared.State.{State}
 use Rattle.station.specs.declared.State.TheVariants.{Closed, Listen, SynSent, SynReceived, Established}
 use Rattle.station.specs.declared.Station.{Station}
-use Rattle.station.specs.Forms.{if◌then◌else◌, place}
+use Rattle.station.specs.Forms.{place}
 use Rattle.numbers.specs.declared.Record.{Record}
 use Rattle.numbers.specs.declared.Header.{Header}
 use Rattle.numbers.specs.declared.Segment.{Segment}

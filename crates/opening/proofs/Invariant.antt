@@ -1,4 +1,5 @@
 -- What holds of a station and of a segment, by the logs, and of a station's step. Assumes nothing.
+use Rattle.std.specs.Prelude.{if◌then◌else◌}
 use Prim.Native.Nat.{ℕ}
 use mathlib.Core.Path.{◌≡◌}
 use mathlib.Core.Bool.{true, false}
@@ -6,7 +7,6 @@ use mathlib.Core.List.Memᴰ
 use mathlib.Core.List.{List, [], ◌∷◌, ◌++◌}
 use Rattle.seq.specs.Seq.{plus}
 use Rattle.segment.specs.declared.Segment.{Segment}
-use Rattle.station.specs.Forms.{if◌then◌else◌}
 use Rattle.station.specs.Sent.{has_ack, has_rst, has_syn, seg_seq, seg_ack}
 use Rattle.station.specs.Outcomes.{Step}
 use Rattle.station.specs.declared.State.{State}

@@ -1,4 +1,5 @@
 -- Every event of the model upholds the invariant. Assumes windows of at most ω and a spacing that is no less.
+use Rattle.std.specs.Prelude.{if◌then◌else◌}
 use Prim.Native.Nat.{ℕ, ◌<◌, ◌≤◌}
 use mathlib.Core.Path.{◌≡◌, refl, ap}
 use mathlib.Core.Bool.{false, not}
@@ -8,7 +9,7 @@ use native.Mathlib.Omega.{arith}
 use borrow.Author.Tests.{ltb-true, not-false}
 use Rattle.segment.specs.declared.Segment.{Segment}
 use Rattle.segment.specs.Refusals.{Said, refused, given}
-use Rattle.station.specs.Forms.{if◌then◌else◌, with, closed_of}
+use Rattle.station.specs.Forms.{with, closed_of}
 use Rattle.station.specs.Outcomes.{Step, quiet}
 use Rattle.station.specs.Events.{event_said}
 use Rattle.station.specs.declared.Station.{Station}

@@ -1,10 +1,9 @@
 -- Histories: what was played, drawn and recorded (the request, demand 3; 01, "Two stations and their links").
-use Rattle.std.specs.Prelude.{ℕ, ◌≤◌, ◌<◌, ◌^◌, ◌≡◌, ◌⊎◌, Bool, true, false, List, [], ◌∷◌, ◌++◌, length}
+use Rattle.std.specs.Prelude.{ℕ, ◌≤◌, ◌<◌, ◌^◌, ◌≡◌, ◌⊎◌, Bool, true, false, List, [], ◌∷◌, ◌++◌, length, if◌then◌else◌}
 use Rattle.seq.specs.Seq.{minus}
 use Rattle.segment.specs.Refusals.{Said, refused, given}
 use Rattle.station.specs.declared.State.TheVariants.{Closed, SynReceived, Established}
 use Rattle.station.specs.declared.Station.{Station}
-use Rattle.station.specs.Forms.{if◌then◌else◌}
 use Rattle.model.specs.Step.{station_of, sound, Moved, step_said, model_after}
 use Rattle.model.specs.Play.{Run, play_said, model_played}
 use Rattle.model.specs.declared.Side.{Side}

@@ -1,4 +1,5 @@
 -- A number is drawn exactly by an open that is taken and by a LISTEN that takes a SYN. Assumes nothing.
+use Rattle.std.specs.Prelude.{if◌then◌else◌}
 use Prim.Native.Nat.{ℕ}
 use mathlib.Core.Path.{◌≡◌, refl, sym, ap, ◌∙◌}
 use mathlib.Core.Bool.{Bool, true, false, not, ◌||◌}
@@ -10,7 +11,7 @@ use Rattle.seq.specs.Seq.{plus, order}
 use Rattle.segment.specs.declared.Segment.{Segment}
 use Rattle.segment.specs.Read.{segment_at, field_tests}
 use Rattle.segment.proofs.Tests.{false_true}
-use Rattle.station.specs.Forms.{if◌then◌else◌, is, with, syn_sent_of, received_of}
+use Rattle.station.specs.Forms.{is, with, syn_sent_of, received_of}
 use Rattle.station.specs.Sent.{has_ack, has_rst, has_syn, seg_seq, seg_ack, syn_ack_of, reply_reset}
 use Rattle.station.specs.Outcomes.{Step, quiet, sending, drawing}
 use Rattle.station.specs.Calls.{open_step, abort_step, resend_step}

@@ -1,4 +1,5 @@
 -- A step keeps the forms. Assumes nothing.
+use Rattle.std.specs.Prelude.{if◌then◌else◌}
 use Prim.Native.Nat.{ℕ}
 use mathlib.Core.Path.{◌≡◌, refl, subst}
 use mathlib.Core.Bool.{Bool, true, false, not, ◌&&◌, ◌||◌}
@@ -10,7 +11,7 @@ use Rattle.segment.specs.declared.Segment.{Segment}
 use Rattle.segment.specs.Refusals.{given}
 use Rattle.segment.specs.Read.{segment_at, field_tests}
 use Rattle.segment.proofs.Tests.{both, is_on}
-use Rattle.station.specs.Forms.{if◌then◌else◌, is, formed, form_at, zeroed, opening, acknowledged, synchronized, with, closed_of, listen_of, syn_sent_of, received_of, established_of}
+use Rattle.station.specs.Forms.{is, formed, form_at, zeroed, opening, acknowledged, synchronized, with, closed_of, listen_of, syn_sent_of, received_of, established_of}
 use Rattle.station.specs.Sent.{has_ack, has_rst, has_syn, seg_seq, seg_ack}
 use Rattle.station.specs.Outcomes.{Step, quiet}
 use Rattle.station.specs.Calls.{open_step, abort_step, resend_step}

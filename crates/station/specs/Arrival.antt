@@ -2,14 +2,14 @@
 -- Departs from RFC 9293: check (c) in a marked SYN-RECEIVED, there LISTEN and nothing sent, here CLOSED as document 000 has it and the
 -- reset of RFC 793. Not taken: RFC 9293's checks of RFC 5961. Follows RFC 9293 against RFC 793: a SEG.ACK of UNA does not establish.
 -- Rules against the drawing of crossing opens (RFC 793; RFC 9293, figure 7): by check (a) the SYN,ACK only draws an ACK, and the ACK establishes.
-use Rattle.std.specs.Prelude.{ℕ, Bool, true, false, not, ◌&&◌, List, [], ◌∷◌, ◌++◌, eqb, ltb}
+use Rattle.std.specs.Prelude.{ℕ, Bool, true, false, not, ◌&&◌, List, [], ◌∷◌, ◌++◌, eqb, ltb, if◌then◌else◌}
 use Rattle.seq.specs.Seq.{plus, minus, order}
 use Rattle.seq.specs.declared.Order.{Order}
 use Rattle.seq.specs.declared.Order.TheVariants.{Later, Equal, Earlier}
 use Rattle.segment.specs.declared.Segment.{Segment}
 use Rattle.segment.specs.Refusals.{Said, Test, refuse◌when◌, first_of}
 use Rattle.segment.specs.Read.{fin_or_text, segment_at, field_tests}
-use Rattle.station.specs.Forms.{if◌then◌else◌, is, closed_of, listen_of, received_of, established_of}
+use Rattle.station.specs.Forms.{is, closed_of, listen_of, received_of, established_of}
 use Rattle.station.specs.Sent.{has_ack, has_rst, has_syn, seg_seq, seg_ack, syn_ack_of, ack_of, reply_reset}
 use Rattle.station.specs.Outcomes.{Step, quiet, sending, drawing}
 use Rattle.station.specs.Calls.{bad_record}

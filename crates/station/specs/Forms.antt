@@ -1,16 +1,9 @@
 -- A station's record and its forms (01, "A station's record").
-use Rattle.std.specs.Prelude.{ℕ, Bool, true, false, not, ◌&&◌, eqb, ltb}
+use Rattle.std.specs.Prelude.{ℕ, Bool, true, false, not, ◌&&◌, eqb, ltb, if◌then◌else◌}
 use Rattle.seq.specs.Seq.{plus}
 use Rattle.station.specs.declared.State.{State}
 use Rattle.station.specs.declared.State.TheVariants.{Closed, Listen, SynSent, SynReceived, Established}
 use Rattle.station.specs.declared.Station.{Station}
-
-module _ {A : Type 0} where
-  infixr 1 if◌then◌else◌
-  -- a chain of checks, read from top to bottom
-  abbrev pub if◌then◌else◌ : Bool → A → A → A
-  if true then x else y = x
-  if false then x else y = y
 
 -- the states, in the order of 01 ("States: CLOSED, LISTEN, ..")
 abbrev pub place : State → ℕ

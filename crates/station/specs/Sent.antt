@@ -1,9 +1,8 @@
 -- What a station sends (01, "Arrival, check by check", the paragraph "Sent" and "Reply reset").
-use Rattle.std.specs.Prelude.{ℕ, Bool, true, false}
+use Rattle.std.specs.Prelude.{ℕ, Bool, true, false, if◌then◌else◌}
 use Rattle.seq.specs.Seq.{plus}
 use Rattle.segment.specs.declared.Control.{Control}
 use Rattle.segment.specs.declared.Segment.{Segment}
-use Rattle.station.specs.Forms.{if◌then◌else◌}
 use Rattle.station.specs.declared.Station.{Station}
 
 -- "ACK is on" (RFC 9293, 3.10.7)

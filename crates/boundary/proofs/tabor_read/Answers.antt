@@ -1,0 +1,9 @@
+use borrow.Author.Rules.{rules}
+use Rattle.boundary.proofs.tabor_read.Goals as goal
+
+pub returns : goal.returns
+returns c =
+    simp (
+      ← c.reading_of.ensures,
+      ← c.read-reading.ensures,
+    )
