@@ -22,9 +22,7 @@ const PEER: u32 = 167772161;
 
 const PEER_PORT: u16 = 1024;
 
-// ---- the owner's calls. Each lends its record to the lent call, and hands it back beside the answer,
-// and no more: code that makes a `&mut` of a struct is proved by hand, and this is one walk for all
-// seven.
+// ---- the owner's calls. Each lends its record to the lent call, and hands it back beside the answer.
 
 fn open_own(mut s: Station, n: u32) -> Told
     ensures { Lent s (open_said s n) result.station result.answer }
