@@ -1,14 +1,22 @@
 // The program (01, "The program"): datagrams from standard input, answers to standard output.
 #![tactic(auto)]
 
+ghost use Rattle.std.specs.Prelude.{◌<◌, ℕ, IfOk, OnErr, length, take};
 ghost use Rattle.std.specs.Io.{ReadsAtMost};
+ghost use Rattle.std.specs.Io.KnownBytes.{Consumes, IsAtEnd};
 
 use std::io;
 use std::io::{Read, Write};
 
-// Reads until the octets are full or the input ends; how many octets were read.
-fn read_full(reader: &mut impl Read, octets: &mut [u8]) -> io::Result<usize>
-    ensures { ReadsAtMost result octets.new }
+// Reads until the octets are full or the input ends, in however many pieces the input comes; how many
+// octets were read. After an error those read before it stand at the start.
+fn read_full<R: Read>(reader: &mut R, octets: &mut [u8]) -> io::Result<usize>
+    ensures bound { ReadsAtMost result octets.new }
+    ensures ok { IfOk result
+        (λ n. Consumes (R.remaining reader.old) (R.remaining reader.new) (take n octets.new)) }
+    ensures all { IfOk result (λ n. n < length octets.old → IsAtEnd (R.remaining reader.new)) }
+    ensures err { OnErr result
+        ((n : ℕ) × Consumes (R.remaining reader.old) (R.remaining reader.new) (take n octets.new)) }
 {
     let mut done = 0;
     while done < octets.len() {
