@@ -2,15 +2,16 @@
 // the answer, and the record after it. The file `stdout` beside src/ was made from 01, not by this
 // program.
 #![tactic(auto)]
-ghost use Rattle.std.specs.Prelude.{◌≡◌};
+
+ghost use Rattle.std.specs.Prelude.{◌≡◌, IfOk};
 ghost use Rattle.station.specs.Calls.{open_said, listen_said, abort_said, resend_said, power_cut_said};
 ghost use Rattle.station.specs.Arrival.{arrive_said, octets_said};
 ghost use Rattle.lent.specs.Lent.{Lent};
 
 use lent::{Answer, Told};
-use libc::STDOUT_FILENO;
 use segment::{Control, Header, Segment};
 use station::{Sent, State, Station};
+use std::io;
 
 // 10.0.0.2 port 2000, the owner's, and 10.0.0.1 port 1024, its peer's (01, "The program").
 const OWN: u32 = 167772162;
@@ -21,9 +22,7 @@ const PEER: u32 = 167772161;
 
 const PEER_PORT: u16 = 1024;
 
-// ---- the owner's calls. Each lends its record to the lent call, and hands it back beside the answer,
-// and no more: code that makes a `&mut` of a struct is proved by hand, and this is one walk for all
-// seven.
+// ---- the owner's calls. Each lends its record to the lent call, and hands it back beside the answer.
 
 fn open_own(mut s: Station, n: u32) -> Told
     ensures { Lent s (open_said s n) result.station result.answer }
@@ -76,83 +75,84 @@ fn octets_own(mut s: Station, src: u32, dst: u32, octets: &[u8], fresh: u32) -> 
 
 // ---- printing
 
-fn text(s: &[u8]) {
-    io::write_all(STDOUT_FILENO, s);
+fn text(rt: &impl Print, s: &[u8]) -> io::Result<()> {
+    rt.write_all(s)
 }
 
-fn number(label: &[u8], n: u64) {
-    text(label);
-    io::print_decimal(STDOUT_FILENO, n);
+fn number(rt: &impl Print, label: &[u8], n: u64) -> io::Result<()> {
+    text(rt, label)?;
+    print!(rt; "{n}")
 }
 
-fn bit(on: bool, name: &[u8]) {
+fn bit(rt: &impl Print, on: bool, name: &[u8]) -> io::Result<()> {
     if on {
-        text(name);
+        text(rt, name)?;
     }
+    Ok(())
 }
 
-fn one(g: Segment) {
+fn one(rt: &impl Print, g: Segment) -> io::Result<()> {
     let h = g.header;
     let control = h.control;
-    bit(control.rst, b" RST");
-    bit(control.syn, b" SYN");
-    bit(control.ack, b" ACK");
-    number(b" seq ", h.seq as u64);
-    number(b" ack ", h.ack as u64);
-    number(b" window ", h.window as u64);
+    bit(rt, control.rst, b" RST")?;
+    bit(rt, control.syn, b" SYN")?;
+    bit(rt, control.ack, b" ACK")?;
+    number(rt, b" seq ", h.seq as u64)?;
+    number(rt, b" ack ", h.ack as u64)?;
+    number(rt, b" window ", h.window as u64)
 }
 
-fn sent(s: Sent) {
-    text(b" sent");
+fn sent(rt: &impl Print, s: Sent) -> io::Result<()> {
+    text(rt, b" sent")?;
     match s {
-        Sent::Nothing => text(b" nothing"),
-        Sent::One(g) => one(g),
+        Sent::Nothing => text(rt, b" nothing"),
+        Sent::One(g) => one(rt, g),
     }
 }
 
-fn answered(a: Answer) {
+fn answered(rt: &impl Print, a: Answer) -> io::Result<()> {
     match a {
-        Answer::Refused(refusal) => number(b" refused ", refusal.number() as u64),
+        Answer::Refused(refusal) => number(rt, b" refused ", refusal.number() as u64),
         Answer::Taken(s, drawn) => {
-            sent(s);
-            bit(drawn, b", number drawn");
+            sent(rt, s)?;
+            bit(rt, drawn, b", number drawn")
         }
     }
 }
 
-fn state(s: State) {
+fn state(rt: &impl Print, s: State) -> io::Result<()> {
     match s {
-        State::Closed => text(b"; CLOSED"),
-        State::Listen => text(b"; LISTEN"),
-        State::SynSent => text(b"; SYN-SENT"),
-        State::SynReceived => text(b"; SYN-RECEIVED"),
-        State::Established => text(b"; ESTABLISHED"),
+        State::Closed => text(rt, b"; CLOSED"),
+        State::Listen => text(rt, b"; LISTEN"),
+        State::SynSent => text(rt, b"; SYN-SENT"),
+        State::SynReceived => text(rt, b"; SYN-RECEIVED"),
+        State::Established => text(rt, b"; ESTABLISHED"),
     }
 }
 
-fn fields(s: Station) {
+fn fields(rt: &impl Print, s: Station) -> io::Result<()> {
     let at = s.state;
-    state(at);
-    bit(s.passive, b" marked");
-    number(b" ISS ", s.iss as u64);
-    number(b" UNA ", s.una as u64);
-    number(b" NXT ", s.nxt as u64);
-    number(b" IRS ", s.irs as u64);
-    number(b" RCV.NXT ", s.rcvnxt as u64);
-    number(b" RCV.WND ", s.rcvwnd as u64);
+    state(rt, at)?;
+    bit(rt, s.passive, b" marked")?;
+    number(rt, b" ISS ", s.iss as u64)?;
+    number(rt, b" UNA ", s.una as u64)?;
+    number(rt, b" NXT ", s.nxt as u64)?;
+    number(rt, b" IRS ", s.irs as u64)?;
+    number(rt, b" RCV.NXT ", s.rcvnxt as u64)?;
+    number(rt, b" RCV.WND ", s.rcvwnd as u64)
 }
 
 // The line of one call; the record after it is handed on to the next.
-fn show(label: &[u8], told: Told) -> Station
-    ensures { result ≡ told.station }
+fn show(rt: &impl Print, label: &[u8], told: Told) -> io::Result<Station>
+    ensures { IfOk result (λ s. s ≡ told.station) }
 {
-    text(label);
+    text(rt, label)?;
     let answer = told.answer;
-    answered(answer);
+    answered(rt, answer)?;
     let after = told.station;
-    fields(after);
-    text(b"\n");
-    after
+    fields(rt, after)?;
+    text(rt, b"\n")?;
+    Ok(after)
 }
 
 // ---- records and segments
@@ -223,77 +223,87 @@ fn ack_101(fin: bool) -> Segment {
 // ---- the runs
 
 // P1, after a listen and the refusals 7 and 4; then a resend.
-fn heard(s: Station) -> Station {
-    let s = show(b"listen:", listen_own(s));
-    let s = show(b"listen again:", listen_own(s));
+fn heard(rt: &impl Print, s: Station) -> io::Result<Station> {
+    let s = show(rt, b"listen:", listen_own(s))?;
+    let s = show(rt, b"listen again:", listen_own(s))?;
     let s = show(
+        rt,
         b"SYN 100, a bit wrong:",
         octets_own(s, PEER, OWN, &syn_octets(1), 300),
-    );
+    )?;
     let s = show(
+        rt,
         b"SYN 100, fresh 300:",
         octets_own(s, PEER, OWN, &syn_octets(0), 300),
-    );
-    show(b"resend:", resend_own(s))
+    )?;
+    show(rt, b"resend:", resend_own(s))
 }
 
 // P2, after the refusals 5 and 6.
-fn acknowledged(s: Station) -> Station {
+fn acknowledged(rt: &impl Print, s: Station) -> io::Result<Station> {
     let s = show(
+        rt,
         b"ACK 101 ack 301 of another port:",
         arrive_own(s, from_peer(1025, 101, 301, bits(false, false)), 700),
-    );
+    )?;
     let s = show(
+        rt,
         b"ACK 101 ack 301 with FIN:",
         arrive_own(s, ack_101(true), 700),
-    );
-    show(b"ACK 101 ack 301:", arrive_own(s, ack_101(false), 700))
+    )?;
+    show(rt, b"ACK 101 ack 301:", arrive_own(s, ack_101(false), 700))
 }
 
 // What ESTABLISHED refuses with 7, 8 and 4; then an abort, and one too many.
-fn aborted(s: Station) -> Station {
-    let s = show(b"open 700:", open_own(s, 700));
-    let s = show(b"resend:", resend_own(s));
+fn aborted(rt: &impl Print, s: Station) -> io::Result<Station> {
+    let s = show(rt, b"open 700:", open_own(s, 700))?;
+    let s = show(rt, b"resend:", resend_own(s))?;
     let s = show(
+        rt,
         b"SYN 100, a bit wrong:",
         octets_own(s, PEER, OWN, &syn_octets(1), 700),
-    );
-    let s = show(b"abort:", abort_own(s));
-    show(b"abort again:", abort_own(s))
+    )?;
+    let s = show(rt, b"abort:", abort_own(s))?;
+    show(rt, b"abort again:", abort_own(s))
 }
 
 // P8, with a resend on the way; then a power cut.
-fn opened(s: Station) {
-    let s = show(b"open 4294967295:", open_own(s, 4294967295));
-    let s = show(b"resend:", resend_own(s));
+fn opened(rt: &impl Print, s: Station) -> io::Result<()> {
+    let s = show(rt, b"open 4294967295:", open_own(s, 4294967295))?;
+    let s = show(rt, b"resend:", resend_own(s))?;
     let s = show(
+        rt,
         b"SYN,ACK 300 ack 0:",
         arrive_own(s, from_peer(PEER_PORT, 300, 0, bits(true, false)), 700),
-    );
-    show(b"power cut:", power_cut_own(s));
+    )?;
+    show(rt, b"power cut:", power_cut_own(s))?;
+    Ok(())
 }
 
 // What every call refuses with 1, before any other cause: a record that is not of the forms.
-fn broken(s: Station) {
-    let s = show(b"broken, open 700:", open_own(s, 700));
-    let s = show(b"broken, listen:", listen_own(s));
-    let s = show(b"broken, abort:", abort_own(s));
-    let s = show(b"broken, resend:", resend_own(s));
-    let s = show(b"broken, power cut:", power_cut_own(s));
+fn broken(rt: &impl Print, s: Station) -> io::Result<()> {
+    let s = show(rt, b"broken, open 700:", open_own(s, 700))?;
+    let s = show(rt, b"broken, listen:", listen_own(s))?;
+    let s = show(rt, b"broken, abort:", abort_own(s))?;
+    let s = show(rt, b"broken, resend:", resend_own(s))?;
+    let s = show(rt, b"broken, power cut:", power_cut_own(s))?;
     let s = show(
+        rt,
         b"broken, ACK 101 ack 301 with FIN:",
         arrive_own(s, ack_101(true), 700),
-    );
+    )?;
     show(
+        rt,
         b"broken, SYN 100, a bit wrong:",
         octets_own(s, PEER, OWN, &syn_octets(1), 700),
-    );
+    )?;
+    Ok(())
 }
 
-fn main() {
-    let received = heard(closed(0));
-    let established = acknowledged(received);
-    let over = aborted(established);
-    opened(over);
-    broken(closed(5));
+fn main(rt: HostRuntime) -> io::Result<()> {
+    let received = heard(&rt, closed(0))?;
+    let established = acknowledged(&rt, received)?;
+    let over = aborted(&rt, established)?;
+    opened(&rt, over)?;
+    broken(&rt, closed(5))
 }

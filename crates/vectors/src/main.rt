@@ -1,8 +1,9 @@
 // Reads and writes the header vectors of docs/VECTORS.md and prints what it gets, a line for each.
 // The file `stdout` beside src/ was made from the papers, not by this program.
 #![tactic(auto)]
-use libc::STDOUT_FILENO;
+
 use segment::{Arriving, Control, Header, Reading, Refusal, Segment, Writing};
+use std::io;
 
 // 10.0.0.1, 10.0.0.2 and 10.0.0.3.
 const ONE: u32 = 167772161;
@@ -13,33 +14,34 @@ const THREE: u32 = 167772163;
 
 // ---- printing
 
-fn text(s: &[u8]) {
-    io::write_all(STDOUT_FILENO, s);
+fn text(rt: &impl Print, s: &[u8]) -> io::Result<()> {
+    rt.write_all(s)
 }
 
-fn number(label: &[u8], n: u64) {
-    text(label);
-    io::print_decimal(STDOUT_FILENO, n);
+fn number(rt: &impl Print, label: &[u8], n: u64) -> io::Result<()> {
+    text(rt, label)?;
+    print!(rt; "{n}")
 }
 
 // An octet as two digits, with a space before it.
-fn octet(x: u8) {
-    text(b" ");
-    io::print_hex(STDOUT_FILENO, x as u64, 2);
+fn octet(rt: &impl Print, x: u8) -> io::Result<()> {
+    print!(rt; " {x:02x}")
 }
 
-fn hex(s: &[u8]) {
+fn hex(rt: &impl Print, s: &[u8]) -> io::Result<()> {
     let mut i: usize = 0;
     while i < s.len() {
-        octet(s[i]);
+        octet(rt, s[i])?;
         i += 1;
     }
+    Ok(())
 }
 
-fn bit(on: bool, name: &[u8]) {
+fn bit(rt: &impl Print, on: bool, name: &[u8]) -> io::Result<()> {
     if on {
-        text(name);
+        text(rt, name)?;
     }
+    Ok(())
 }
 
 fn any(k: Control) -> bool {
@@ -47,72 +49,79 @@ fn any(k: Control) -> bool {
 }
 
 // The control bits that are on, by name, high to low.
-fn bits(k: Control) {
-    bit(k.cwr, b" CWR");
-    bit(k.ece, b" ECE");
-    bit(k.urg, b" URG");
-    bit(k.ack, b" ACK");
-    bit(k.psh, b" PSH");
-    bit(k.rst, b" RST");
-    bit(k.syn, b" SYN");
-    bit(k.fin, b" FIN");
-    bit(!any(k), b" none");
+fn bits(rt: &impl Print, k: Control) -> io::Result<()> {
+    bit(rt, k.cwr, b" CWR")?;
+    bit(rt, k.ece, b" ECE")?;
+    bit(rt, k.urg, b" URG")?;
+    bit(rt, k.ack, b" ACK")?;
+    bit(rt, k.psh, b" PSH")?;
+    bit(rt, k.rst, b" RST")?;
+    bit(rt, k.syn, b" SYN")?;
+    bit(rt, k.fin, b" FIN")?;
+    bit(rt, !any(k), b" none")
 }
 
-fn refused(refusal: Refusal) {
-    number(b" refused ", refusal.number() as u64);
+fn refused(rt: &impl Print, refusal: Refusal) -> io::Result<()> {
+    number(rt, b" refused ", refusal.number() as u64)
 }
 
-fn fields(h: Header) {
-    number(b" source ", h.source as u64);
-    number(b" destination ", h.destination as u64);
-    number(b" seq ", h.seq as u64);
-    number(b" ack ", h.ack as u64);
-    text(b" control");
+fn fields(rt: &impl Print, h: Header) -> io::Result<()> {
+    number(rt, b" source ", h.source as u64)?;
+    number(rt, b" destination ", h.destination as u64)?;
+    number(rt, b" seq ", h.seq as u64)?;
+    number(rt, b" ack ", h.ack as u64)?;
+    text(rt, b" control")?;
     let control = h.control;
-    bits(control);
-    number(b" window ", h.window as u64);
-    number(b" urgent ", h.urgent as u64);
+    bits(rt, control)?;
+    number(rt, b" window ", h.window as u64)?;
+    number(rt, b" urgent ", h.urgent as u64)
 }
 
 // ---- one vector
 
-fn read(label: &[u8], src: u32, dst: u32, s: &[u8]) {
-    text(label);
+fn read(rt: &impl Print, label: &[u8], src: u32, dst: u32, s: &[u8]) -> io::Result<()> {
+    text(rt, label)?;
     match segment::read(src, dst, s) {
-        Reading::Refused(refusal) => refused(refusal),
-        Reading::Fields(h) => fields(h),
+        Reading::Refused(refusal) => refused(rt, refusal)?,
+        Reading::Fields(h) => fields(rt, h)?,
     }
-    text(b"\n");
+    text(rt, b"\n")
 }
 
-fn whole(g: Segment) {
+fn whole(rt: &impl Print, g: Segment) -> io::Result<()> {
     let header = g.header;
-    fields(header);
-    number(b" text ", g.text as u64);
+    fields(rt, header)?;
+    number(rt, b" text ", g.text as u64)
 }
 
-fn arriving(label: &[u8], s: &[u8]) {
-    text(label);
+fn arriving(rt: &impl Print, label: &[u8], s: &[u8]) -> io::Result<()> {
+    text(rt, label)?;
     match segment::fields_with_text(ONE, TWO, s) {
-        Arriving::Refused(refusal) => refused(refusal),
-        Arriving::Whole(g) => whole(g),
+        Arriving::Refused(refusal) => refused(rt, refusal)?,
+        Arriving::Whole(g) => whole(rt, g)?,
     }
-    text(b"\n");
+    text(rt, b"\n")
 }
 
 // The output holds aa in every octet before.
-fn write(label: &[u8], src: u32, dst: u32, h: Header, out: &mut [u8]) {
-    text(label);
+fn write(
+    rt: &impl Print,
+    label: &[u8],
+    src: u32,
+    dst: u32,
+    h: Header,
+    out: &mut [u8],
+) -> io::Result<()> {
+    text(rt, label)?;
     match segment::write(src, dst, h, out) {
         Writing::Refused(refusal) => {
-            refused(refusal);
-            text(b", output");
+            refused(rt, refusal)?;
+            text(rt, b", output")?;
         }
-        Writing::Written => text(b" written"),
+        Writing::Written => text(rt, b" written")?,
     }
-    hex(out);
-    text(b"\n");
+    hex(rt, out)?;
+    text(rt, b"\n")
 }
 
 // ---- headers
@@ -201,107 +210,127 @@ fn options_40() -> [u8; 60] {
     let head = [
         255u8, 255, 0, 1, 18, 52, 86, 120, 154, 188, 222, 240, 240, 24, 0, 1, 5, 50, 0, 0,
     ];
-    bytes::copy(&head, &mut s);
+    s[..20].copy_from_slice(&head);
     s
 }
 
 // ---- the vectors, in the order of docs/VECTORS.md
 
-fn read_back() {
+fn read_back(rt: &impl Print) -> io::Result<()> {
     let mut p11_out = [170u8; 24];
-    write(b"P11 write:", ONE, TWO, p11(4096, false), &mut p11_out);
-    read(b"P11 read:", ONE, TWO, &p11_octets(80, 127, 172, 0));
+    write(rt, b"P11 write:", ONE, TWO, p11(4096, false), &mut p11_out)?;
+    read(rt, b"P11 read:", ONE, TWO, &p11_octets(80, 127, 172, 0))?;
     let mut p12_out = [170u8; 20];
-    write(b"P12 write:", ONE, TWO, p11(36780, false), &mut p12_out);
-    read(b"P12 read 0000:", ONE, TWO, &p12_octets(0));
-    read(b"P12 read ffff:", ONE, TWO, &p12_octets(255));
+    write(rt, b"P12 write:", ONE, TWO, p11(36780, false), &mut p12_out)?;
+    read(rt, b"P12 read 0000:", ONE, TWO, &p12_octets(0))?;
+    read(rt, b"P12 read ffff:", ONE, TWO, &p12_octets(255))
 }
 
-fn options() {
+fn options(rt: &impl Print) -> io::Result<()> {
     let mss = [
         4u8, 0, 7, 208, 255, 255, 255, 255, 0, 0, 0, 0, 96, 2, 255, 255, 120, 84, 0, 0, 2, 4, 5,
         180,
     ];
-    read(b"options read:", ONE, TWO, &mss);
-    read(b"options 40 read:", ONE, TWO, &options_40());
-    read(b"reserved read:", ONE, TWO, &p11_octets(95, 112, 172, 0));
+    read(rt, b"options read:", ONE, TWO, &mss)?;
+    read(rt, b"options 40 read:", ONE, TWO, &options_40())?;
+    read(
+        rt,
+        b"reserved read:",
+        ONE,
+        TWO,
+        &p11_octets(95, 112, 172, 0),
+    )
 }
 
-fn every_bit() {
+fn every_bit(rt: &impl Print) -> io::Result<()> {
     let mut all_out = [170u8; 20];
-    write(b"all bits write:", ONE, TWO, all_bits(), &mut all_out);
+    write(rt, b"all bits write:", ONE, TWO, all_bits(), &mut all_out)?;
     let all = [
         255u8, 255, 1, 2, 1, 2, 3, 4, 255, 0, 255, 0, 80, 254, 3, 4, 143, 208, 5, 6,
     ];
-    read(b"all bits read:", ONE, TWO, &all);
+    read(rt, b"all bits read:", ONE, TWO, &all)?;
     let mut none_out = [170u8; 20];
-    write(b"no bits write:", 0, 0, no_bits(), &mut none_out);
+    write(rt, b"no bits write:", 0, 0, no_bits(), &mut none_out)?;
     let none = [
         0u8, 0, 0, 0, 0, 0, 0, 0, 0, 0, 0, 0, 80, 0, 0, 0, 175, 229, 0, 0,
     ];
-    read(b"no bits read:", 0, 0, &none);
+    read(rt, b"no bits read:", 0, 0, &none)
 }
 
-fn text_and_fin() {
+fn text_and_fin(rt: &impl Print) -> io::Result<()> {
     let hello = [
         4u8, 0, 7, 208, 0, 0, 0, 100, 0, 0, 0, 0, 80, 24, 16, 0, 59, 191, 0, 0, 104, 101, 108, 108,
         111,
     ];
-    arriving(b"text arriving:", &hello);
-    read(b"text read:", ONE, TWO, &hello);
+    arriving(rt, b"text arriving:", &hello)?;
+    read(rt, b"text read:", ONE, TWO, &hello)?;
     let fin = [
         4u8, 0, 7, 208, 0, 0, 0, 100, 0, 0, 0, 0, 80, 17, 16, 0, 127, 157, 0, 0,
     ];
-    arriving(b"fin arriving:", &fin);
-    read(b"fin read:", ONE, TWO, &fin);
+    arriving(rt, b"fin arriving:", &fin)?;
+    read(rt, b"fin read:", ONE, TWO, &fin)
 }
 
-fn sizes() {
+fn sizes(rt: &impl Print) -> io::Result<()> {
     let short = [
         4u8, 0, 7, 208, 0, 0, 0, 100, 0, 0, 0, 0, 80, 2, 16, 0, 127, 172, 0,
     ];
-    read(b"19 octets:", ONE, TWO, &short);
-    read(b"no octets:", ONE, TWO, b"");
-    read(b"65515 octets:", ONE, TWO, &[0u8; 65515]);
-    read(b"65516 octets:", ONE, TWO, &[0u8; 65516]);
+    read(rt, b"19 octets:", ONE, TWO, &short)?;
+    read(rt, b"no octets:", ONE, TWO, b"")?;
+    read(rt, b"65515 octets:", ONE, TWO, &[0u8; 65515])?;
+    read(rt, b"65516 octets:", ONE, TWO, &[0u8; 65516])
 }
 
-fn damaged() {
-    read(b"length 4:", ONE, TWO, &p11_octets(64, 127, 172, 0));
-    read(b"length 6:", ONE, TWO, &p11_octets(96, 127, 172, 0));
-    read(b"one bit wrong:", ONE, TWO, &p11_octets(80, 127, 172, 1));
+fn damaged(rt: &impl Print) -> io::Result<()> {
+    read(rt, b"length 4:", ONE, TWO, &p11_octets(64, 127, 172, 0))?;
+    read(rt, b"length 6:", ONE, TWO, &p11_octets(96, 127, 172, 0))?;
     read(
+        rt,
+        b"one bit wrong:",
+        ONE,
+        TWO,
+        &p11_octets(80, 127, 172, 1),
+    )?;
+    read(
+        rt,
         b"other addresses:",
         THREE,
         TWO,
         &p11_octets(80, 127, 172, 0),
-    );
-    read(b"addresses turned:", TWO, ONE, &p11_octets(80, 127, 172, 0));
+    )?;
+    read(
+        rt,
+        b"addresses turned:",
+        TWO,
+        ONE,
+        &p11_octets(80, 127, 172, 0),
+    )
 }
 
-fn refused_writes() {
+fn refused_writes(rt: &impl Print) -> io::Result<()> {
     let mut fin = [170u8; 24];
-    write(b"fin write:", ONE, TWO, p11(4096, true), &mut fin);
+    write(rt, b"fin write:", ONE, TWO, p11(4096, true), &mut fin)?;
     let mut fin_short = [170u8; 19];
     write(
+        rt,
         b"fin write short:",
         ONE,
         TWO,
         p11(4096, true),
         &mut fin_short,
-    );
+    )?;
     let mut short = [170u8; 19];
-    write(b"short write:", ONE, TWO, p11(4096, false), &mut short);
+    write(rt, b"short write:", ONE, TWO, p11(4096, false), &mut short)?;
     let mut empty = [170u8; 0];
-    write(b"empty write:", ONE, TWO, p11(4096, false), &mut empty);
+    write(rt, b"empty write:", ONE, TWO, p11(4096, false), &mut empty)
 }
 
-fn main() {
-    read_back();
-    options();
-    every_bit();
-    text_and_fin();
-    sizes();
-    damaged();
-    refused_writes();
+fn main(rt: HostRuntime) -> io::Result<()> {
+    read_back(&rt)?;
+    options(&rt)?;
+    every_bit(&rt)?;
+    text_and_fin(&rt)?;
+    sizes(&rt)?;
+    damaged(&rt)?;
+    refused_writes(&rt)
 }

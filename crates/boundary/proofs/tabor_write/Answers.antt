@@ -5,4 +5,4 @@ pub returns : goal.returns
 returns c =
     let h = c.header_of.ensures in
     let write = c.write-writing.ensures in
-    record { answer = simp (← h, ← write.answer) c.number_of_lem.ensures; output = simp (← h) write.output }
+    record { answer = simp (← h, ← write.answer) c.number_of.ensures; output = simp (← h) write.output }

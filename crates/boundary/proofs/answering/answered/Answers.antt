@@ -12,7 +12,7 @@ returns-then-out-lt20 c =
 pub write_sent-requires : goal.write_sent-requires
 write_sent-requires c =
     let taken = c.in-Taken.is in
-    (c.if-out-lt20.false, rw taken at c.requires)
+    record { in_bounds = c.if-out-lt20.false; replies = rw taken at c.requires }
 
 pub returns-in-Refused : goal.returns-in-Refused
 returns-in-Refused c =

@@ -6,4 +6,4 @@ pub returns-in-One : goal.returns-in-One
 returns-in-One c =
     let one = c.in-One.is in
     let pre = rw one at c.requires in
-    simp one (written_there _ _ _ _ _ pre.1 pre.0 c.write.ensures.output)
+    simp one (written_there _ _ _ _ _ pre.replies pre.in_bounds c.write.ensures.output)
