@@ -4,6 +4,7 @@
 // theorem is promised by a function that does nothing, and is computed. (Those of octets are in the crate
 // octet_cases, since sums take the checker long.)
 #![tactic(auto)]
+
 ghost use Rattle.cases.specs.Calls.{Calls};
 ghost use Rattle.cases.specs.Arrival.{Unsynchronized, Synchronized};
 ghost use Rattle.cases.specs.Forms.{Forms};

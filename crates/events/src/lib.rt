@@ -1,5 +1,6 @@
 // Events in octets, ten to an event: its kind, its side, a place and a number.
 #![tactic(auto)]
+
 ghost use Rattle.std.specs.Prelude.{◌≡◌};
 ghost use Rattle.events.specs.Lists.{side_of, event_of, event_at, names_event, is_event, is_list, count_of, within, list_at};
 ghost use Rattle.events.specs.Theorems.{CrossesBack, Examples};

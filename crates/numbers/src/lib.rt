@@ -1,5 +1,6 @@
 // Structs of numbers, which cross to C by value, and the library's own records, headers, segments and models: each from the other.
 #![tactic(auto)]
+
 mod links;
 
 ghost use Rattle.std.specs.Prelude.{◌≡◌};

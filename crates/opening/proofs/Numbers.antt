@@ -24,13 +24,14 @@ module _ {S : Type 0} (P : S → Type 0) where
   each_map Q f [] h = tt
   each_map Q f (x ∷ l) h = (f x h.0, each_map Q f l h.1)
 
-  each_at : {l : List S} {s : S} → All P l → Memᴰ s l → P s
+  each_at : {s : S} {l : List S} → All P l → Memᴰ s l → P s
   each_at h (Memᴰ.head e) = subst P (sym e) h.0
   each_at h (Memᴰ.tail m) = each_at h.1 m
 
 -- ---- spacing by γ
 
 pub spaced_lt : (γ : ℕ) (ns : List ℕ) {n : ℕ} → SpacedBy γ ns → Memᴰ n ns → n < 2 ^ 32
+spaced_lt γ [] sp m = absurd (Memᴰ.not-nil m)
 spaced_lt γ (k ∷ ns) sp (Memᴰ.head e) = rw e sp.0
 spaced_lt γ (k ∷ ns) sp (Memᴰ.tail m) = spaced_lt γ ns sp.2 m
 
@@ -52,6 +53,7 @@ spaced_new γ ns n hγ sp m = omega (arith, minus_self n sp.0, each_at (ApartBy 
 
 -- a number drawn last is apart from those before it, and so from a window behind any of them
 spaced_last : (γ : ℕ) (ns : List ℕ) (n r : ℕ) → SpacedBy γ (ns ++ (n ∷ [])) → Memᴰ r ns → ApartBy γ r n
+spaced_last γ [] n r sp m = absurd (Memᴰ.not-nil m)
 spaced_last γ (z ∷ ns) n r sp (Memᴰ.head e) =
     subst (λ (v : ℕ). ApartBy γ v n) (sym e) (each_at (ApartBy γ z) sp.1 (Memᴰ.append_right ns (Memᴰ.head refl)))
 spaced_last γ (z ∷ ns) n r sp (Memᴰ.tail m) = spaced_last γ ns n r sp.2 m

@@ -1,6 +1,7 @@
 // Demand 3: what holds of every history of two stations (the request, demand 3; 01, "Two stations and
 // their links"). Each theorem is promised by a function that does nothing.
 #![tactic(auto)]
+
 ghost use Rattle.opening.specs.Runs.{ReachableExists, SpacingIsNeeded, Incident};
 ghost use Rattle.opening.specs.Statement.{EstablishedAgree, NineSteps, WindowIsEnough};
 

@@ -1,5 +1,6 @@
 // What is told in numbers, and how: of a station's step, of a header read and written, of an event and of a list that is played.
 #![tactic(auto)]
+
 ghost use Rattle.std.specs.Prelude.{◌≡◌, length};
 ghost use Rattle.segment.specs.Read.{said_reading};
 ghost use Rattle.segment.specs.Refusals.{refused};

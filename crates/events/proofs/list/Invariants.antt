@@ -1,0 +1,17 @@
+use Prim.Native.Nat.{◌≤◌, ◌<◌, ◌-◌, ◌*◌}
+use mathlib.Core.Path.{◌≡◌, refl, ap, ◌∙◌}
+use native.Mathlib.Omega.{arith}
+use lib.ListN.{length, take, drop, length-set}
+use borrow.Author.Rules.{rules}
+use borrow.Author.Rules.{part_to_end}
+use Rattle.events.specs.Lists.{event_at, events_at}
+use Rattle.events.proofs.Listed.{limits, no_events, filled_next, behind_next, filled_all}
+use Rattle.events.proofs.list.Given as goal
+
+-- The loop's invariant: the places below i have their events, those from i on are as they were.
+abbrev pub invariant-loop-i : goal.invariant-loop-i
+invariant-loop-i l =
+    ((l.i ≤ l.n) × (l.n ≤ 4096) × (l.n * 10 ≤ length l.s)) × (length l.events ≡ 4096) × (take l.i l.events ≡ events_at l.i l.s) × (drop l.i l.events ≡ drop l.i l.initial.events)
+
+abbrev pub decreases-loop-i : goal.decreases-loop-i
+decreases-loop-i l = l.n - l.i

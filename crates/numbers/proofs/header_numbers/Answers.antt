@@ -1,0 +1,9 @@
+use Rattle.numbers.specs.Numbers.{header_numbers}
+use borrow.Author.Rules.{rules}
+use Rattle.numbers.proofs.header_numbers.Goals as goal
+
+pub returns : goal.returns
+unfolding header_numbers
+returns c =
+    simp
+    (← c.control_octet.ensures)

@@ -1,0 +1,9 @@
+use Rattle.numbers.specs.Numbers.{header_of}
+use borrow.Author.Rules.{rules}
+use Rattle.numbers.proofs.header_of.Goals as goal
+
+pub returns : goal.returns
+unfolding header_of
+returns c =
+    simp
+    (← c.control_at-control.ensures)

@@ -1,0 +1,9 @@
+use Rattle.numbers.specs.Links.{link_numbers}
+use borrow.Author.Rules.{rules}
+use Rattle.numbers.proofs.links.link_numbers.Goals as goal
+
+pub returns : goal.returns
+unfolding link_numbers
+returns c =
+    simp
+    (← c.slot_numbers.ensures)

@@ -1,0 +1,29 @@
+use Prim.Native.Nat.{◌≤◌, ◌<◌, ◌-◌}
+use mathlib.Core.Path.{◌≡◌, refl, ◌∙◌}
+use mathlib.Core.List.{map}
+use native.Mathlib.Omega.{arith}
+use lib.ListN.{length, take, length-set}
+use borrow.Author.Rules.{rules}
+use Rattle.numbers.specs.Numbers.{segment_of}
+use Rattle.numbers.proofs.Filled.{mapped_next, mapped_all}
+use Rattle.numbers.proofs.links.slots_of.Goals as goal
+
+pub loop-i-init : goal.loop-i-init
+loop-i-init c = ((omega arith, refl), refl)
+
+pub loop-i-preserved : goal.loop-i-preserved
+loop-i-preserved c =
+    let a = c.args in
+    let l = c.loop-i in
+    let h : l.i < length a.slots = omega arith in
+    let k : l.i < length l.next = omega arith in
+    ((omega arith, length-set l.next l.i _ ∙ l.invariant.0.1), rw c.segment_of.ensures (mapped_next segment_of a.slots l.next l.i _ h k l.invariant.1))
+
+pub returns : goal.returns
+returns c =
+    let a = c.args in
+    let l = c.loop-i in
+    let e : l.i ≡ 32 = omega arith in
+    let h : length a.slots ≤ 32 = omega arith in
+    let k : length l.next ≤ 32 = omega arith in
+    mapped_all segment_of a.slots l.next 32 h k (rw e at l.invariant.1)

@@ -1,0 +1,11 @@
+use Rattle.numbers.specs.Numbers.{record_of}
+use borrow.Author.Rules.{rules}
+use Rattle.numbers.proofs.record_of.Goals as goal
+
+pub returns : goal.returns
+unfolding record_of
+returns c =
+    simp (
+      ← c.bit_of.ensures,
+      ← c.state_number.ensures,
+    )

@@ -1,0 +1,9 @@
+use Rattle.numbers.specs.Numbers.{segment_of}
+use borrow.Author.Rules.{rules}
+use Rattle.numbers.proofs.segment_of.Goals as goal
+
+pub returns : goal.returns
+unfolding segment_of
+returns c =
+    simp
+    (← c.header_of.ensures)
