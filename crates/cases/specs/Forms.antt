@@ -5,8 +5,8 @@ use Rattle.segment.specs.Refusals.{refused}
 use Rattle.station.specs.declared.State.TheVariants.{Closed, Listen, SynSent, SynReceived, Established}
 use Rattle.station.specs.declared.Station.{Station}
 use Rattle.station.specs.declared.Event.TheVariants as Event
-use Rattle.examples.specs.Spelled.{Ends, record_at, SYN, step, AllHold}
-use Rattle.cases.specs.Station.{at, marked, unmarked, syn_sent, says, ◌on◌gives◌}
+use Rattle.examples.specs.Spelled.{record_at, SYN, step, AllHold}
+use Rattle.cases.specs.Station.{at, marked, unmarked, says, ◌on◌gives◌}
 
 -- a record that 1 refuses
 abbrev pub misfit : Station → Type 0

@@ -5,18 +5,16 @@ use Rattle.segment.specs.declared.Control.{Control}
 use Rattle.segment.specs.declared.Segment.{Segment}
 use Rattle.segment.specs.Refusals.{Said, refused, given}
 use Rattle.station.specs.declared.State.{State}
-use Rattle.station.specs.declared.State.TheVariants.{Closed, Listen, SynSent, SynReceived, Established}
+use Rattle.station.specs.declared.State.TheVariants.{Closed, Listen, SynSent, SynReceived}
 use Rattle.station.specs.declared.Station.{Station}
-use Rattle.model.specs.declared.Side.{Side}
 use Rattle.model.specs.declared.Side.TheVariants.{A, B}
 use Rattle.model.specs.declared.Link.{Link}
 use Rattle.model.specs.declared.Model.{Model}
 use Rattle.model.specs.declared.Event.{Event}
-use Rattle.model.specs.declared.Event.TheVariants as Event
 use Rattle.model.specs.Step.{Moved, step_said}
 use Rattle.model.specs.Play.{Run, play_said}
 use Rattle.examples.specs.Spelled.{Ends, bits, SYN, SYN_ACK, ACK, RST, RST_ACK, record_at, sent_from, AllHold}
-use Rattle.cases.specs.Station.{here, at, marked, unmarked, closed, listening, syn_sent, received}
+use Rattle.cases.specs.Station.{here, at, marked, unmarked, closed, syn_sent, received}
 
 -- B's endpoints, with a window of 2,000
 abbrev pub there : Ends

@@ -1,6 +1,6 @@
 -- The station of the cases (01, "A station's record"), with numbers that no example of 01 has: 10.1.0.9 port 5001, peer 10.2.0.4 port
 -- 4007, window 1,000; ISS 7,000, IRS 90,000.
-use Rattle.std.specs.Prelude.{ℕ, ◌≡◌, Bool, true, false, List, [], ◌∷◌}
+use Rattle.std.specs.Prelude.{ℕ, ◌≡◌, Bool, true, false}
 use Rattle.segment.specs.declared.Control.{Control}
 use Rattle.segment.specs.declared.Segment.{Segment}
 use Rattle.segment.specs.Refusals.{Said}
@@ -8,7 +8,6 @@ use Rattle.station.specs.declared.State.{State}
 use Rattle.station.specs.declared.State.TheVariants.{Closed, Listen, SynSent, SynReceived, Established}
 use Rattle.station.specs.declared.Station.{Station}
 use Rattle.station.specs.declared.Event.{Event}
-use Rattle.station.specs.declared.Event.TheVariants as Event
 use Rattle.station.specs.Outcomes.{Step}
 use Rattle.station.specs.Events.{event_said}
 use Rattle.examples.specs.Spelled.{Ends, record_at, sent_from}

@@ -5,7 +5,7 @@ use mathlib.Core.Bool.{false, not, ◌||◌}
 use mathlib.Core.List.{List, ◌++◌}
 use native.Mathlib.Omega.{arith}
 use lib.ListN.{length, get_or, take, drop, length-take}
-use lib.Seq.{get_or-take, take-add, take_at, take-length, drop_at, length-take-le}
+use lib.Seq.{get_or-take, take-add, take_at, drop_at, length-take-le}
 use lib.Dec.{ltb, eqb}
 use borrow.Author.Tests.{ltb-false, le-ltb, eqb-true, eq-eqb, not-false}
 use Rattle.segment.specs.Refusals.{Said}
@@ -106,12 +106,10 @@ between a z s h k =
     ∙ drop_at (take a s) (take (z - a) (drop a s)) a (length-take-le a s k)
 
 -- a frame filled with a datagram begins with it
-pub framed : (s zeros frame : List ℕ) → Whole s
-    → frame ≡ take (length (take (total_size s) s)) (take (total_size s) s) ++ drop (length (take (total_size s) s)) zeros
-    → take (total_size s) frame ≡ take (total_size s) s
-framed s zeros frame w e =
-    ap (take (total_size s)) (e ∙ rw take-length)
-    ∙ take_at (take (total_size s) s) (drop (length (take (total_size s) s)) zeros) (total_size s) (length-take-le (total_size s) s w.there)
+pub framed : (s front zeros : List ℕ) → Whole s → front ≡ take (total_size s) s → take (total_size s) (front ++ zeros) ≡ take (total_size s) s
+framed s front zeros w e =
+    ap (λ (l : List ℕ). take (total_size s) (l ++ zeros)) e
+    ∙ take_at (take (total_size s) s) zeros (total_size s) (length-take-le (total_size s) s w.there)
 
 -- what a datagram's segment is answered by
 abbrev pub arrived : Box → List ℕ → Said Step

@@ -1,5 +1,5 @@
 -- IPv4 datagrams (01, "The program"; RFC 791, 3.1).
-use Rattle.std.specs.Prelude.{ℕ, ◌+◌, ◌-◌, ◌*◌, ◌/◌, ◌%◌, Bool, not, ◌||◌, List, [], ◌∷◌, ◌++◌, length, get_or, take, drop, ltb, eqb}
+use Rattle.std.specs.Prelude.{ℕ, ◌-◌, ◌*◌, ◌/◌, ◌%◌, Bool, not, ◌||◌, List, [], ◌∷◌, ◌++◌, length, get_or, take, drop, ltb, eqb}
 use Rattle.checksum.specs.Sum.{words, carried, at16}
 use Rattle.segment.specs.declared.Segment.{Segment}
 use Rattle.segment.specs.Octets.{two, four, at32}

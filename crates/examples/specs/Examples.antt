@@ -3,7 +3,7 @@ use Rattle.std.specs.Prelude.{ℕ, ◌≡◌, Bool, true, false, List, [], ◌�
 use Rattle.segment.specs.declared.Control.{Control}
 use Rattle.segment.specs.declared.Header.{Header}
 use Rattle.segment.specs.declared.Segment.{Segment}
-use Rattle.segment.specs.Refusals.{Said, given}
+use Rattle.segment.specs.Refusals.{given}
 use Rattle.segment.specs.Octets.{header_words, reserved}
 use Rattle.segment.specs.Read.{read_said}
 use Rattle.segment.specs.Write.{made}

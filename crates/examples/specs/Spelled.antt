@@ -2,7 +2,6 @@
 -- taken from the rules, so that an example says by itself what a rule must give.
 use Rattle.std.specs.Prelude.{ℕ, Bool, true, false, List, [], ◌∷◌}
 use Rattle.segment.specs.declared.Control.{Control}
-use Rattle.segment.specs.declared.Header.{Header}
 use Rattle.segment.specs.declared.Segment.{Segment}
 use Rattle.segment.specs.Refusals.{Said, given}
 use Rattle.station.specs.declared.State.{State}

@@ -1,5 +1,4 @@
 -- A number is drawn where a station draws it, and is then its ISS. Assumes nothing.
-use Prim.Native.Nat.{ℕ}
 use mathlib.Core.Path.{◌≡◌, refl}
 use mathlib.Core.Bool.{Bool, true, false, not}
 use mathlib.Core.List.{List, [], ◌∷◌}
@@ -12,7 +11,6 @@ use Rattle.station.specs.Events.{event_said}
 use Rattle.station.specs.Theorems.{Draws as Call-as-Draws, Offers}
 use Rattle.station.specs.declared.Station.{Station}
 use Rattle.station.specs.declared.Event.{Event as Call}
-use Rattle.station.specs.declared.Event.TheVariants as Call
 use Rattle.station.proofs.Keeps.{by_case}
 use Rattle.station.proofs.Draws.{draws_exactly as call_draws_exactly}
 use Rattle.model.specs.Links.{full, has_place, at_place}

@@ -16,7 +16,6 @@ use Rattle.station.specs.Events.{event_said}
 use Rattle.station.specs.Theorems.{record_row, event_rows}
 use Rattle.station.specs.declared.Station.{Station}
 use Rattle.station.specs.declared.Event.{Event as Call}
-use Rattle.station.specs.declared.Event.TheVariants as Call
 use Rattle.station.proofs.Exact.{then as through, record_agrees, refusals_exact as station_refusals_exact}
 use Rattle.model.specs.Links.{full, has_place, at_place}
 use Rattle.model.specs.Step.{station_of, toward, mirrored, sound, Moved, moved, delivered, copied, lost, applied, step_said, model_after, said_answer, reply_of}

@@ -8,13 +8,12 @@ use lib.Dec.{ltb}
 use borrow.Author.Tests.{le-leb, not-false}
 use Rattle.segment.specs.declared.Segment.{Segment}
 use Rattle.segment.specs.Refusals.{Said, refused, given}
-use Rattle.station.specs.Forms.{if◌then◌else◌, formed, with, closed_of, listen_of, syn_sent_of, received_of, established_of}
+use Rattle.station.specs.Forms.{formed, with, closed_of, listen_of, syn_sent_of, received_of, established_of}
 use Rattle.station.specs.Outcomes.{Step}
 use Rattle.station.specs.Events.{event_said}
 use Rattle.station.specs.declared.State.{State}
 use Rattle.station.specs.declared.Station.{Station}
 use Rattle.station.specs.declared.Event.{Event as Call}
-use Rattle.station.specs.declared.Event.TheVariants as Call
 use Rattle.station.proofs.Keeps.{by_case, Everywhere, event_has, keeps_forms as station_keeps_forms}
 use Rattle.model.specs.Links.{full, has_place, at_place, pushed, removed}
 use Rattle.model.specs.Step.{peer_of, station_of, toward, with_station, with_toward, mirrored, sound, Moved, posted, moved, delivered, copied, lost, applied, step_said, model_after}

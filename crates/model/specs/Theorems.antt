@@ -5,7 +5,6 @@ use Rattle.segment.specs.declared.Refusal.{Refusal}
 use Rattle.segment.specs.Refusals.{refused, given, Row, row◌given_when◌, ByRows}
 use Rattle.station.specs.Theorems.{record_row, endpoint_rows, event_rows, Draws as Call-as-Draws}
 use Rattle.station.specs.declared.Event.{Event as Call}
-use Rattle.station.specs.declared.Event.TheVariants as Call
 use Rattle.model.specs.Links.{held, blank, full, at_place, pushed, removed}
 use Rattle.model.specs.Step.{station_of, toward, sound, Moved, step_said, Steps}
 use Rattle.model.specs.Play.{Run, play_said, Plays}

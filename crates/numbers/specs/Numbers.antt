@@ -1,5 +1,5 @@
 -- Records, headers and segments as structs of numbers (docs/DECISIONS.md, "The boundary in numbers").
-use Rattle.std.specs.Prelude.{ℕ, Bool, ◌&&◌, List, [], ◌∷◌, eqb, ltb}
+use Rattle.std.specs.Prelude.{ℕ, Bool, ◌&&◌, eqb, ltb}
 use Rattle.segment.specs.declared.Header.{Header as SegmentHeader}
 use Rattle.segment.specs.declared.Segment.{Segment as SegmentSegment}
 use Rattle.segment.specs.Octets.{control_at, control_octet}

@@ -20,8 +20,7 @@ use Rattle.model.specs.declared.Side.TheVariants.{A, B}
 use Rattle.model.specs.declared.Link.{Link}
 use Rattle.model.specs.declared.Model.{Model}
 use Rattle.model.specs.declared.Event.{Event}
-use Rattle.model.specs.declared.Event.TheVariants as Event
-use Rattle.opening.specs.History.{next, side_of, same_side, drew, All, SpacedBy}
+use Rattle.opening.specs.History.{side_of, same_side, drew, All, SpacedBy}
 use Rattle.station.proofs.Keeps.{by_case}
 use Rattle.opening.proofs.Numbers.{each_append, each_map, onto}
 use Rattle.opening.proofs.Logs.{Log, Logs, flipped}

@@ -1,5 +1,5 @@
 -- A step keeps endpoints and window, and a sound model stays sound. Assumes nothing.
-use Prim.Native.Nat.{ℕ, ◌≤◌}
+use Prim.Native.Nat.{◌≤◌}
 use mathlib.Core.Path.{◌≡◌, refl}
 use mathlib.Core.Bool.{true}
 use borrow.Author.Tests.{eqb-true, leb-true}

@@ -1,7 +1,6 @@
 -- Runs that are computed: the hypotheses of demand 3 can be met, and its spacing is needed (01, "Errors that look reasonable").
 use Rattle.std.specs.Prelude.{ℕ, ◌≡◌, false, List, [], ◌∷◌, ◌++◌, replicate}
 use Rattle.station.specs.declared.State.{State}
-use Rattle.station.specs.declared.State.TheVariants as State
 use Rattle.station.specs.declared.Station.{Station}
 use Rattle.model.specs.Links.{blank}
 use Rattle.model.specs.declared.Side.TheVariants.{A, B}

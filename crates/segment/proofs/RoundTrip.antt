@@ -1,21 +1,19 @@
 -- Reading what was written, and writing what was read. Assumes nothing.
-use Prim.Native.Nat.{ℕ, ◌+◌, ◌*◌, ◌≤◌, ◌<◌}
+use Prim.Native.Nat.{ℕ, ◌+◌, ◌*◌, ◌≤◌}
 use mathlib.Core.Path.{◌≡◌, refl, sym, ap, ◌∙◌}
-use mathlib.Core.Bool.{Bool, true, false}
-use mathlib.Core.List.{List, [], ◌∷◌, ◌++◌}
+use mathlib.Core.Bool.{false}
+use mathlib.Core.List.{List, ◌++◌}
 use mathlib.Core.Logic.{⊎_elim, inl}
 use native.Mathlib.Omega.{arith}
 use lib.ListN.{length, get_or, take, drop}
-use lib.Seq.{take_at}
-use lib.Dec.{ltb, eqb}
+use lib.Dec.{ltb}
 use borrow.Author.Tests.{le-ltb, eq-eqb, ltb-false, eqb-true, not-false}
 use Rattle.checksum.specs.Sum.{sum_of, checksum_of, at16, unchecked}
 use Rattle.checksum.proofs.Sums.{laws}
 use Rattle.segment.specs.declared.Header.{Header}
-use Rattle.segment.specs.declared.Segment.{Segment}
-use Rattle.segment.specs.Refusals.{given, first_of, leaves}
+use Rattle.segment.specs.Refusals.{given}
 use Rattle.segment.specs.Octets.{octets_of, fields_at, header_words, reserved}
-use Rattle.segment.specs.Read.{size_wrong, header_length_wrong, text_length, segment_at, fin_or_text, field_tests, read_tests, fields_said, read_said}
+use Rattle.segment.specs.Read.{text_length, segment_at, field_tests, read_tests, fields_said, read_said}
 use Rattle.segment.specs.Write.{made, write_tests, write_said, write_leaves}
 use Rattle.segment.specs.Theorems.{Octets, ReadsBack, WritesBack}
 use Rattle.segment.proofs.Tests.{AllOff, all_off, neither}

@@ -2,7 +2,6 @@
 use Rattle.std.specs.Prelude.{ℕ, ◌*◌, ◌≤◌, ◌<◌, ◌≡◌, true, List, [], ◌∷◌, ◌++◌, ◌⊎◌, ◌↔◌, length, get_or, take, drop}
 use Rattle.checksum.specs.Sum.{at16, sum_of}
 use Rattle.segment.specs.declared.Header.{Header}
-use Rattle.segment.specs.declared.Segment.{Segment}
 use Rattle.segment.specs.declared.Reading.{Reading}
 use Rattle.segment.specs.declared.Arriving.{Arriving}
 use Rattle.segment.specs.declared.Writing.{Writing}

@@ -20,7 +20,6 @@ use Rattle.station.specs.declared.State.{State}
 use Rattle.station.specs.declared.State.TheVariants.{Closed, Listen, SynSent, SynReceived, Established}
 use Rattle.station.specs.declared.Station.{Station}
 use Rattle.station.specs.declared.Event.{Event}
-use Rattle.station.specs.declared.Event.TheVariants as Event
 use Rattle.station.proofs.Keeps.{by_test}
 use Rattle.station.proofs.Uniform.{event_step, past, event_past}
 

@@ -1,13 +1,12 @@
 -- Refusals are given exactly when the table says. Assumes nothing.
 use Prim.Native.Nat.{ℕ}
 use mathlib.Core.Path.{◌≡◌, refl, sym, ap, ◌∙◌}
-use mathlib.Core.Bool.{Bool, true, false, not, cond}
-use mathlib.Core.List.{List, [], ◌∷◌, ◌++◌}
+use mathlib.Core.Bool.{true, not, cond}
+use mathlib.Core.List.{List, ◌∷◌, ◌++◌}
 use mathlib.Core.Logic.{◌↔◌}
 use lib.Dec.{eqb}
 use Rattle.seq.specs.Seq.{plus}
 use Rattle.segment.specs.declared.Segment.{Segment}
-use Rattle.segment.specs.Refusals.{first_of, Row, ByRows}
 use Rattle.segment.specs.Read.{segment_at, field_tests}
 use Rattle.segment.specs.Theorems.{field_rows}
 use Rattle.segment.proofs.Tests.{Agree, exact, agree_rest, is_on, is_off, below, same, negated, both, either}
@@ -20,7 +19,6 @@ use Rattle.station.specs.declared.State.{State}
 use Rattle.station.specs.declared.State.TheVariants.{Closed, Listen, SynSent, SynReceived, Established}
 use Rattle.station.specs.declared.Station.{Station}
 use Rattle.station.specs.declared.Event.{Event}
-use Rattle.station.specs.declared.Event.TheVariants as Event
 use Rattle.station.proofs.Uniform.{event_tests, event_step, event_first}
 
 -- ---- a state by its place

@@ -22,7 +22,6 @@ use Rattle.station.specs.declared.State.{State}
 use Rattle.station.specs.declared.State.TheVariants.{Closed, Listen, SynSent, SynReceived, Established}
 use Rattle.station.specs.declared.Station.{Station}
 use Rattle.station.specs.declared.Event.{Event}
-use Rattle.station.specs.declared.Event.TheVariants as Event
 
 -- a chain of checks has what each of its ends has
 pub by_test {ℓ} : {A : Type 0} (P : A → Type ℓ) (b : Bool) (x y : A) → P x → P y → P (if b then x else y)

@@ -1,5 +1,4 @@
 -- Every event is tests and a step, and so are octets that arrive. Assumes nothing.
-use Prim.Native.Nat.{ℕ}
 use mathlib.Core.Path.{◌≡◌, refl}
 use mathlib.Core.Bool.{true, not}
 use mathlib.Core.List.{List, [], ◌∷◌}
@@ -14,7 +13,6 @@ use Rattle.station.specs.Events.{event_said}
 use Rattle.station.specs.declared.State.TheVariants.{Closed}
 use Rattle.station.specs.declared.Station.{Station}
 use Rattle.station.specs.declared.Event.{Event}
-use Rattle.station.specs.declared.Event.TheVariants as Event
 
 -- the tests behind the record's
 abbrev pub event_tests : Station → Event → List Test

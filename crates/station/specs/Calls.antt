@@ -1,5 +1,5 @@
 -- The calls and the power cut (01, "Calls and power"; RFC 9293, 3.10.1 and 3.10.5).
-use Rattle.std.specs.Prelude.{ℕ, Bool, not, ◌||◌, List, [], ◌∷◌}
+use Rattle.std.specs.Prelude.{ℕ, Bool, not, ◌||◌, [], ◌∷◌}
 use Rattle.segment.specs.Refusals.{Said, Test, refuse◌when◌, first_of}
 use Rattle.station.specs.Forms.{if◌then◌else◌, is, formed, closed_of, listen_of, syn_sent_of}
 use Rattle.station.specs.Sent.{syn_of, syn_ack_of, rst_of}

@@ -2,7 +2,6 @@
 use Rattle.std.specs.Prelude.{ℕ, Bool, true, false}
 use Rattle.seq.specs.Seq.{plus}
 use Rattle.segment.specs.declared.Control.{Control}
-use Rattle.segment.specs.declared.Header.{Header}
 use Rattle.segment.specs.declared.Segment.{Segment}
 use Rattle.station.specs.Forms.{if◌then◌else◌}
 use Rattle.station.specs.declared.Station.{Station}

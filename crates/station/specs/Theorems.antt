@@ -15,7 +15,6 @@ use Rattle.station.specs.declared.State.TheVariants.{Closed, Listen, SynSent, Sy
 use Rattle.station.specs.declared.Station.{Station}
 use Rattle.station.specs.declared.Outcome.{Outcome}
 use Rattle.station.specs.declared.Event.{Event}
-use Rattle.station.specs.declared.Event.TheVariants as Event
 
 -- a record of the forms stays one, after every call and arrival that is taken
 pub record KeepsForms : Type 0 where

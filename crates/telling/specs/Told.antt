@@ -6,9 +6,7 @@ use Rattle.segment.specs.Refusals.{number, Said, refused, given}
 use Rattle.station.specs.Outcomes.{Step, segments}
 use Rattle.model.specs.declared.Model.{Model as ModelModel}
 use Rattle.model.specs.declared.Answer.{Answer}
-use Rattle.model.specs.declared.Answer.TheVariants as Answer
 use Rattle.model.specs.declared.Report.{Report}
-use Rattle.model.specs.declared.Report.TheVariants as Report
 use Rattle.model.specs.Step.{Moved}
 use Rattle.model.specs.Play.{Run}
 use Rattle.numbers.specs.declared.Record.{Record}

@@ -1,9 +1,6 @@
-use mathlib.Core.Path.{◌≡◌, refl, sym, ap, ◌∙◌}
-use Prim.Native.Nat.{ℕ, ◌+◌, ◌-◌, ◌%◌, ◌≤◌}
+use mathlib.Core.Path.{refl, sym, ap, ◌∙◌}
 use native.Mathlib.Omega.{arith}
-use lib.ListN.{length, drop}
-use borrow.Author.Rules.{rules}
-use Rattle.checksum.specs.Sum.{words, carried}
+use Rattle.checksum.specs.Sum.{carried}
 use Rattle.checksum.proofs.Sums.{turn, words_last, words_done, carried_small}
 use Rattle.checksum.proofs.add_words.Goals as goal
 

@@ -1,10 +1,7 @@
-use mathlib.Core.Path.{◌≡◌, refl, sym, ap, ◌∙◌}
-use Prim.Native.Nat.{ℕ, ◌+◌, ◌-◌, ◌%◌, ◌≤◌}
-use native.Mathlib.Omega.{arith}
-use lib.ListN.{length, drop}
-use borrow.Author.Rules.{rules}
+use mathlib.Core.Path.{◌≡◌}
+use Prim.Native.Nat.{◌+◌, ◌-◌, ◌%◌, ◌≤◌}
+use lib.ListN.{drop}
 use Rattle.checksum.specs.Sum.{words, carried}
-use Rattle.checksum.proofs.Sums.{turn, words_last, words_done, carried_small}
 use Rattle.checksum.proofs.add_words.Given as goal
 
 -- by the work that is left: the sum so far and the words from i on come to the whole

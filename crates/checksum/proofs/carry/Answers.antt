@@ -1,7 +1,5 @@
-use mathlib.Core.Path.{◌≡◌, refl, sym, ◌∙◌}
-use Prim.Native.Nat.{ℕ, ◌<◌, ◌^◌}
+use mathlib.Core.Path.{refl, sym, ◌∙◌}
 use native.Mathlib.Omega.{arith}
-use Rattle.checksum.specs.Sum.{carried}
 use Rattle.checksum.proofs.Sums.{carried_once, carried_small}
 use Rattle.checksum.proofs.carry.Goals as goal
 

@@ -1,8 +1,6 @@
-use mathlib.Core.Path.{◌≡◌, refl, sym, ◌∙◌}
-use Prim.Native.Nat.{ℕ, ◌<◌, ◌^◌}
-use native.Mathlib.Omega.{arith}
+use mathlib.Core.Path.{◌≡◌}
+use Prim.Native.Nat.{◌<◌, ◌^◌}
 use Rattle.checksum.specs.Sum.{carried}
-use Rattle.checksum.proofs.Sums.{carried_once, carried_small}
 use Rattle.checksum.proofs.carry.Given as goal
 
 abbrev pub invariant-loop-left : goal.invariant-loop-left

@@ -1,5 +1,4 @@
 use Rattle.checksum.specs.Sum.{checksum_of}
-use borrow.Author.Rules.{rules}
 use Rattle.checksum.proofs.checksum.Goals as goal
 
 pub returns : goal.returns

@@ -3,7 +3,6 @@ use mathlib.Core.Path.{ap, ◌∙◌}
 use native.Mathlib.Omega.{arith}
 use Rattle.checksum.specs.Sum.{carried, address_words}
 use Rattle.checksum.proofs.Sums.{carried_add}
-use borrow.Author.Rules.{rules}
 use Rattle.checksum.proofs.pseudo_header.Goals as goal
 
 pub returns : goal.returns

@@ -1,7 +1,6 @@
 use mathlib.Core.Path.{◌∙◌}
 use Rattle.checksum.specs.Sum.{words, sum_of}
 use Rattle.checksum.proofs.Sums.{carried_add}
-use borrow.Author.Rules.{rules}
 use Rattle.checksum.proofs.sum.Goals as goal
 
 pub returns : goal.returns

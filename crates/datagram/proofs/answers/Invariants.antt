@@ -1,15 +1,7 @@
-use Prim.Native.Nat.{◌+◌, ◌-◌, ◌≤◌, ◌<◌}
-use mathlib.Core.Path.{sym, ap, ◌∙◌}
-use native.Mathlib.Omega.{arith}
-use lib.ListN.{length, take, drop, length-drop}
-use borrow.Author.Rules.{rules}
-use Rattle.station.specs.Outcomes.{segments}
-use Rattle.datagram.specs.Layout.{total_size}
-use Rattle.datagram.specs.Program.{datagrams_of}
+use Prim.Native.Nat.{◌-◌}
+use lib.ListN.{length}
 use Rattle.datagram.specs.Promises.{box_of}
-use Rattle.datagram.proofs.Reading.{whole}
-use Rattle.datagram.proofs.Parts.{lent}
-use Rattle.datagram.proofs.Turns.{Halfway, halfway, finished, sizes, fits, onward}
+use Rattle.datagram.proofs.Turns.{Halfway}
 use Rattle.datagram.proofs.answers.Given as goal
 
 abbrev pub invariant-loop-rest : goal.invariant-loop-rest

@@ -1,4 +1,4 @@
-use borrow.Author.Rules.{rules}
+use native.Mathlib.Omega.{arith}
 use Rattle.datagram.specs.Program.{output}
 use Rattle.datagram.proofs.Parts.{take_read, read_size, read_most}
 use Rattle.datagram.proofs.run.Goals as goal
@@ -9,7 +9,7 @@ slice_bounds-answers-end c = read_size 65535 c.args.input.now _ c.size_read-size
 pub answers-requires : goal.answers-requires
 answers-requires c =
     let most = read_most 65535 c.args.input.now _ c.size_read-size.ensures in
-    (most, rw c.answers-arg2.given.0.1 most)
+    record { input_len_bound = most; input_in_bounds = omega (arith, most, c.told-out) }
 
 pub returns : goal.returns
 unfolding output

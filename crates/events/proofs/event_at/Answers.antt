@@ -1,5 +1,4 @@
 use Rattle.events.specs.Lists.{event_at}
-use borrow.Author.Rules.{rules}
 use Rattle.events.proofs.event_at.Goals as goal
 
 pub returns : goal.returns

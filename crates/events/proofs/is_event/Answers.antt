@@ -1,5 +1,4 @@
 use Rattle.events.specs.Lists.{is_event}
-use borrow.Author.Rules.{rules}
 use Rattle.events.proofs.is_event.Goals as goal
 
 pub returns : goal.returns

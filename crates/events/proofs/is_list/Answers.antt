@@ -1,11 +1,9 @@
-use Prim.Native.Nat.{◌≤◌, ◌-◌, ◌*◌}
-use mathlib.Core.Path.{◌≡◌, sym, ap, ◌∙◌}
+use Prim.Native.Nat.{◌*◌}
+use mathlib.Core.Path.{sym, ap, ◌∙◌}
 use native.Mathlib.Omega.{arith}
-use lib.ListN.{drop}
-use borrow.Author.Rules.{rules}
 use borrow.Author.Tests.{eq-eqb, ne_eqb}
 use borrow.Author.Rules.{part_to_end}
-use Rattle.events.specs.Lists.{names_event, all_named}
+use Rattle.events.specs.Lists.{names_event}
 use Rattle.events.proofs.Listed.{named_start, named_so_far, named_no_more, none_left, size_wrong, by_events}
 use Rattle.events.proofs.is_list.Goals as goal
 

@@ -1,12 +1,7 @@
 use Prim.Native.Nat.{◌≤◌, ◌-◌, ◌*◌}
-use mathlib.Core.Path.{◌≡◌, sym, ap, ◌∙◌}
-use native.Mathlib.Omega.{arith}
+use mathlib.Core.Path.{◌≡◌}
 use lib.ListN.{drop}
-use borrow.Author.Rules.{rules}
-use borrow.Author.Tests.{not-true, not-false}
-use borrow.Author.Rules.{part_to_end}
-use Rattle.events.specs.Lists.{names_event, all_named}
-use Rattle.events.proofs.Listed.{named_start, named_so_far, named_no_more, none_left, size_wrong, by_events}
+use Rattle.events.specs.Lists.{all_named}
 use Rattle.events.proofs.is_list.Given as goal
 
 -- The loop's invariant, by the work that is left: the events from i on name one where all do.

@@ -1,10 +1,9 @@
-use Prim.Native.Nat.{◌≤◌, ◌<◌, ◌-◌, ◌*◌}
+use Prim.Native.Nat.{◌<◌, ◌*◌}
 use mathlib.Core.Path.{◌≡◌, refl, ap, ◌∙◌}
 use native.Mathlib.Omega.{arith}
-use lib.ListN.{length, take, drop, length-set}
-use borrow.Author.Rules.{rules}
+use lib.ListN.{length, length-set}
 use borrow.Author.Rules.{part_to_end}
-use Rattle.events.specs.Lists.{event_at, events_at}
+use Rattle.events.specs.Lists.{event_at}
 use Rattle.events.proofs.Listed.{limits, no_events, filled_next, behind_next, filled_all}
 use Rattle.events.proofs.list.Goals as goal
 

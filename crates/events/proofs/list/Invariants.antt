@@ -1,11 +1,7 @@
-use Prim.Native.Nat.{◌≤◌, ◌<◌, ◌-◌, ◌*◌}
-use mathlib.Core.Path.{◌≡◌, refl, ap, ◌∙◌}
-use native.Mathlib.Omega.{arith}
-use lib.ListN.{length, take, drop, length-set}
-use borrow.Author.Rules.{rules}
-use borrow.Author.Rules.{part_to_end}
-use Rattle.events.specs.Lists.{event_at, events_at}
-use Rattle.events.proofs.Listed.{limits, no_events, filled_next, behind_next, filled_all}
+use Prim.Native.Nat.{◌≤◌, ◌-◌, ◌*◌}
+use mathlib.Core.Path.{◌≡◌}
+use lib.ListN.{length, take, drop}
+use Rattle.events.specs.Lists.{events_at}
 use Rattle.events.proofs.list.Given as goal
 
 -- The loop's invariant: the places below i have their events, those from i on are as they were.

@@ -1,5 +1,4 @@
 use Rattle.events.specs.Lists.{names_event}
-use borrow.Author.Rules.{rules}
 use Rattle.events.proofs.names_event.Goals as goal
 
 pub returns : goal.returns

@@ -1,5 +1,4 @@
 use Rattle.numbers.specs.Links.{both_known}
-use borrow.Author.Rules.{rules}
 use Rattle.numbers.proofs.both_known.Goals as goal
 
 pub returns : goal.returns

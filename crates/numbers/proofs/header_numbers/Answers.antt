@@ -1,5 +1,4 @@
 use Rattle.numbers.specs.Numbers.{header_numbers}
-use borrow.Author.Rules.{rules}
 use Rattle.numbers.proofs.header_numbers.Goals as goal
 
 pub returns : goal.returns

@@ -1,5 +1,4 @@
 use Rattle.numbers.specs.Links.{model_numbers}
-use borrow.Author.Rules.{rules}
 use Rattle.numbers.proofs.model_numbers.Goals as goal
 
 pub returns : goal.returns

@@ -1,5 +1,4 @@
 use Rattle.numbers.specs.Links.{model_of}
-use borrow.Author.Rules.{rules}
 use Rattle.numbers.proofs.model_of.Goals as goal
 
 pub returns : goal.returns

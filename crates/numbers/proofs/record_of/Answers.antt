@@ -1,5 +1,4 @@
 use Rattle.numbers.specs.Numbers.{record_of}
-use borrow.Author.Rules.{rules}
 use Rattle.numbers.proofs.record_of.Goals as goal
 
 pub returns : goal.returns

@@ -1,5 +1,4 @@
 use Rattle.numbers.specs.Numbers.{segment_of}
-use borrow.Author.Rules.{rules}
 use Rattle.numbers.proofs.segment_of.Goals as goal
 
 pub returns : goal.returns

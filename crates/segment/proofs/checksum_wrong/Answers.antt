@@ -1,4 +1,3 @@
-use borrow.Author.Rules.{rules}
 use Rattle.segment.proofs.checksum_wrong.Goals as goal
 
 pub returns : goal.returns

@@ -1,7 +1,6 @@
 use mathlib.Core.Path.{sym, ◌∙◌}
 use Rattle.segment.specs.Read.{field_tests, fields_said}
 use Rattle.segment.proofs.Passed.{size_fits, header_fits}
-use borrow.Author.Rules.{rules}
 use Rattle.segment.proofs.fields_with_text.Goals as goal
 
 pub returns-then-size_wrong : goal.returns-then-size_wrong

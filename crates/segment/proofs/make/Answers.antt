@@ -1,5 +1,4 @@
 use Rattle.segment.specs.Write.{made}
-use borrow.Author.Rules.{rules}
 use Rattle.segment.proofs.make.Goals as goal
 
 pub returns : goal.returns

@@ -1,7 +1,6 @@
 use mathlib.Core.Path.{sym}
 use native.Mathlib.Omega.{arith}
 use lib.ListN.{get_or-eq_default}
-use borrow.Author.Rules.{rules}
 use Rattle.segment.proofs.octet.Goals as goal
 
 pub returns-else-at-s : goal.returns-else-at-s

@@ -1,4 +1,3 @@
-use borrow.Author.Rules.{rules}
 use Rattle.segment.proofs.octets.Goals as goal
 
 pub returns : goal.returns

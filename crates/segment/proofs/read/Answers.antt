@@ -1,6 +1,5 @@
 use mathlib.Core.Path.{sym, ◌∙◌}
 use Rattle.segment.proofs.Passed.{read_refused, read_fin_or_text, read_fields}
-use borrow.Author.Rules.{rules}
 use Rattle.segment.proofs.read.Goals as goal
 
 pub returns-then-fin_or_text : goal.returns-then-fin_or_text

@@ -1,5 +1,3 @@
-use mathlib.Core.Path.{◌≡◌, ap, ◌∙◌}
-use lib.ListN.{drop}
 use borrow.Author.Tests.{lt-ltb, le-ltb}
 use Rattle.segment.specs.Write.{made, write_tests, write_said, write_leaves}
 use Rattle.segment.proofs.write.Goals as goal

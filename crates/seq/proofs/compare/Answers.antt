@@ -1,4 +1,4 @@
-use Rattle.std.proofs.Common.{sym, arith, rules}
+use Rattle.std.proofs.Common.{sym, arith}
 use Rattle.seq.proofs.Circle.{at_equal, at_later, at_earlier}
 use Rattle.seq.proofs.compare.Goals as goal
 

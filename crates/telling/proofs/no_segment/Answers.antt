@@ -1,5 +1,4 @@
 use Rattle.telling.specs.Told.{no_segment}
-use borrow.Author.Rules.{rules}
 use Rattle.telling.proofs.no_segment.Goals as goal
 
 pub returns : goal.returns

@@ -1,4 +1,3 @@
-use borrow.Author.Rules.{rules}
 use Rattle.telling.proofs.not_stepped.Goals as goal
 
 pub returns : goal.returns

@@ -1,5 +1,4 @@
 use native.Mathlib.Nat.{zero-add}
-use borrow.Author.Rules.{rules}
 use Rattle.datagram.specs.Layout.{header_checksum}
 use Rattle.datagram.proofs.layout.header_checksum.Goals as goal
 

@@ -1,4 +1,3 @@
-use borrow.Author.Rules.{rules}
 use Rattle.datagram.specs.Layout.{stops_at}
 use Rattle.datagram.proofs.layout.stops_at.Goals as goal
 

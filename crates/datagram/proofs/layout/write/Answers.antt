@@ -1,13 +1,19 @@
-use mathlib.Core.Path.{◌∙◌}
-use borrow.Author.Rules.{rules}
+use mathlib.Core.Path.{sym, ap, ◌∙◌}
+use lib.ListN.{length}
+use lib.Seq.{length-take-le}
+use native.Mathlib.Omega.{arith}
 use Rattle.datagram.proofs.Parts.{both_written}
 use Rattle.datagram.proofs.layout.write.Goals as goal
 
+pub slice_bounds-copy_from_slice-end-2 : goal.slice_bounds-copy_from_slice-end-2
+slice_bounds-copy_from_slice-end-2 c = sym (length-take-le 20 c.args.out.now (omega arith))
+
+pub copy_from_slice-requires : goal.copy_from_slice-requires
+copy_from_slice-requires c =
+    length-take-le 20 c.args.out.now (omega arith) ∙ sym (ap length c.header_with-ip.ensures)
+
 pub returns : goal.returns
 returns c =
-    let start = c in
-    let args = start.args in
-    both_written args.g args.out.now _ _ start.requires.1 start.requires.0
-    (c.copy.ensures.1
-    ∙ rw (start.header-with.ensures, start.header-checksum.ensures))
+    both_written c.args.g c.args.out.now _ _ c.requires.fin_value c.requires.in_bounds
+    (rw (c.copy_from_slice.ensures.after, c.header_with-ip.ensures, c.header_checksum.ensures))
     c.write.ensures.output

@@ -1,7 +1,5 @@
 use Rattle.model.specs.Step.{step_said}
-use borrow.Author.Rules.{rules}
 use mathlib.Core.Path.{sym, ◌∙◌}
-use borrow.Author.Tests.{not-false}
 use Rattle.model.proofs.Model.step.Goals as goal
 
 pub returns-then-not-sound : goal.returns-then-not-sound

@@ -1,10 +1,9 @@
-use Prim.Native.Nat.{◌≤◌, ◌+◌, ◌-◌, ◌<◌}
+use Prim.Native.Nat.{◌+◌, ◌<◌}
 use mathlib.Core.Path.{◌≡◌}
 use native.Mathlib.Omega.{arith}
-use borrow.Author.Rules.{rules}
 use lib.ListN.{length}
 use Rattle.model.specs.Links.{blank}
-use Rattle.model.proofs.Shift.{shifted, shift_start, shift_more, shift_last}
+use Rattle.model.proofs.Shift.{shift_start, shift_more, shift_last}
 use Rattle.model.proofs.links.moved_up.Goals as goal
 
 pub loop-i-init : goal.loop-i-init

@@ -1,10 +1,7 @@
-use Prim.Native.Nat.{◌≤◌, ◌+◌, ◌-◌, ◌<◌}
+use Prim.Native.Nat.{◌≤◌, ◌-◌, ◌<◌}
 use mathlib.Core.Path.{◌≡◌}
-use native.Mathlib.Omega.{arith}
-use borrow.Author.Rules.{rules}
-use lib.ListN.{length}
 use Rattle.model.specs.Links.{blank}
-use Rattle.model.proofs.Shift.{shifted, shift_start, shift_more, shift_last}
+use Rattle.model.proofs.Shift.{shifted}
 use Rattle.model.proofs.links.moved_up.Given as goal
 
 -- The loop's invariant: the stores below place i are made.

@@ -1,5 +1,4 @@
 use Rattle.model.specs.Links.{removed}
-use borrow.Author.Rules.{rules}
 use Rattle.model.proofs.links.removed.Goals as goal
 
 pub returns : goal.returns

@@ -1,12 +1,11 @@
-use Prim.Native.Nat.{◌≤◌, ◌<◌, ◌-◌}
-use mathlib.Core.Path.{◌≡◌, refl, sym, ap, ◌∙◌}
+use Prim.Native.Nat.{◌≤◌, ◌<◌}
+use mathlib.Core.Path.{refl, sym, ap, ◌∙◌}
 use native.Mathlib.Omega.{arith}
-use borrow.Author.Rules.{rules}
-use lib.ListN.{length, take, drop}
+use lib.ListN.{length}
 use Rattle.segment.specs.Refusals.{given}
 use Rattle.model.specs.Step.{said_answer}
-use Rattle.model.specs.Play.{Run, run, begun}
-use Rattle.model.proofs.Runs.{at, run_next, run_done, Within, within_next}
+use Rattle.model.specs.Play.{Run, begun}
+use Rattle.model.proofs.Runs.{at, run_next, run_done, within_next}
 use Rattle.model.proofs.playing.run.Goals as goal
 
 pub loop-i-init : goal.loop-i-init

@@ -1,12 +1,8 @@
-use Prim.Native.Nat.{◌≤◌, ◌<◌, ◌-◌}
-use mathlib.Core.Path.{◌≡◌, refl, sym, ap, ◌∙◌}
-use native.Mathlib.Omega.{arith}
-use borrow.Author.Rules.{rules}
-use lib.ListN.{length, take, drop}
-use Rattle.segment.specs.Refusals.{given}
-use Rattle.model.specs.Step.{said_answer}
-use Rattle.model.specs.Play.{Run, run, begun}
-use Rattle.model.proofs.Runs.{at, run_next, run_done, Within, within_next}
+use Prim.Native.Nat.{◌≤◌, ◌-◌}
+use mathlib.Core.Path.{◌≡◌}
+use lib.ListN.{take, drop}
+use Rattle.model.specs.Play.{run, begun}
+use Rattle.model.proofs.Runs.{at, Within}
 use Rattle.model.proofs.playing.run.Given as goal
 
 -- The loop's invariant, by the work that is left: the events from i on lead from here to where all lead from the beginning.

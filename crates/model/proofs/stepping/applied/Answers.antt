@@ -1,5 +1,4 @@
 use Rattle.model.specs.Step.{applied}
-use borrow.Author.Rules.{rules}
 use Rattle.model.proofs.stepping.applied.Goals as goal
 
 pub returns-in-Open : goal.returns-in-Open

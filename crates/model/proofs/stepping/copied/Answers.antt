@@ -1,5 +1,4 @@
 use Rattle.model.specs.Step.{copied}
-use borrow.Author.Rules.{rules}
 use native.Mathlib.Omega.{arith}
 use Rattle.model.proofs.Laws.{place_of, room}
 use Rattle.model.proofs.stepping.copied.Goals as goal

@@ -1,5 +1,4 @@
 use Rattle.model.specs.Step.{delivered}
-use borrow.Author.Rules.{rules}
 use native.Mathlib.Omega.{arith}
 use Rattle.model.proofs.Laws.{place_of}
 use Rattle.model.proofs.stepping.delivered.Goals as goal

@@ -1,5 +1,4 @@
 use Rattle.model.specs.Step.{lost}
-use borrow.Author.Rules.{rules}
 use Rattle.model.proofs.Laws.{place_of}
 use Rattle.model.proofs.stepping.lost.Goals as goal
 

@@ -1,5 +1,4 @@
 use Rattle.model.specs.Step.{moved}
-use borrow.Author.Rules.{rules}
 use Rattle.model.proofs.Laws.{retold}
 use Rattle.model.proofs.stepping.moved.Goals as goal
 

@@ -1,5 +1,4 @@
 use Rattle.model.specs.Step.{posted}
-use borrow.Author.Rules.{rules}
 use Rattle.model.proofs.Laws.{room, retold}
 use Rattle.model.proofs.stepping.posted.Goals as goal
 

@@ -1,4 +1,3 @@
-use borrow.Author.Rules.{rules}
 use Rattle.model.proofs.Laws.{retold}
 use Rattle.model.proofs.stepping.relinked.Goals as goal
 

@@ -1,5 +1,4 @@
 use Rattle.model.specs.Step.{sound}
-use borrow.Author.Rules.{rules}
 use Rattle.model.proofs.stepping.sound.Goals as goal
 
 pub returns : goal.returns

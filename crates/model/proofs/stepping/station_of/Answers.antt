@@ -1,5 +1,4 @@
 use Rattle.model.specs.Step.{station_of}
-use borrow.Author.Rules.{rules}
 use Rattle.model.proofs.stepping.station_of.Goals as goal
 
 pub returns-in-A : goal.returns-in-A

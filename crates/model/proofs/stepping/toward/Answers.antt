@@ -1,5 +1,4 @@
 use Rattle.model.specs.Step.{toward}
-use borrow.Author.Rules.{rules}
 use Rattle.model.proofs.stepping.toward.Goals as goal
 
 pub returns-in-A : goal.returns-in-A

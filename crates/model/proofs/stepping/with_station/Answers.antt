@@ -1,5 +1,4 @@
 use Rattle.model.specs.Step.{with_station}
-use borrow.Author.Rules.{rules}
 use Rattle.model.proofs.stepping.with_station.Goals as goal
 
 pub returns-in-A : goal.returns-in-A

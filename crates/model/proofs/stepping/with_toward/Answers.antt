@@ -1,5 +1,4 @@
 use Rattle.model.specs.Step.{with_toward}
-use borrow.Author.Rules.{rules}
 use Rattle.model.proofs.stepping.with_toward.Goals as goal
 
 pub returns-in-A : goal.returns-in-A

@@ -1,5 +1,4 @@
 use Rattle.numbers.specs.Links.{link_numbers}
-use borrow.Author.Rules.{rules}
 use Rattle.numbers.proofs.links.link_numbers.Goals as goal
 
 pub returns : goal.returns

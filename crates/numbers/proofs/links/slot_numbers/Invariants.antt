@@ -1,11 +1,8 @@
-use Prim.Native.Nat.{◌≤◌, ◌<◌, ◌-◌}
-use mathlib.Core.Path.{◌≡◌, refl, ◌∙◌}
+use Prim.Native.Nat.{◌≤◌, ◌-◌}
+use mathlib.Core.Path.{◌≡◌}
 use mathlib.Core.List.{map}
-use native.Mathlib.Omega.{arith}
-use lib.ListN.{length, take, length-set}
-use borrow.Author.Rules.{rules}
+use lib.ListN.{length, take}
 use Rattle.numbers.specs.Numbers.{segment_numbers}
-use Rattle.numbers.proofs.Filled.{mapped_next, mapped_all}
 use Rattle.numbers.proofs.links.slot_numbers.Given as goal
 
 -- The loop's invariant: the places below i are filled.

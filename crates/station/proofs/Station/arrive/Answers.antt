@@ -1,5 +1,4 @@
 use Rattle.station.specs.Arrival.{arrive_said, endpoint_tests}
-use borrow.Author.Rules.{rules}
 use Rattle.station.proofs.Station.arrive.Goals as goal
 
 pub returns-then-not-formed : goal.returns-then-not-formed

@@ -1,8 +1,6 @@
 use mathlib.Core.Path.{sym, ◌∙◌}
-use borrow.Author.Tests.{not-false}
 use Rattle.station.proofs.Octets.{octets_refused, octets_passed}
 use Rattle.station.specs.Arrival.{octets_said}
-use borrow.Author.Rules.{rules}
 use Rattle.station.proofs.Station.arrive_octets.Goals as goal
 
 pub returns-then-not-formed : goal.returns-then-not-formed

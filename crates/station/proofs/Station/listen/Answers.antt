@@ -1,5 +1,4 @@
 use Rattle.station.specs.Calls.{listen_said}
-use borrow.Author.Rules.{rules}
 use Rattle.station.proofs.Station.listen.Goals as goal
 
 pub returns-then-not-formed : goal.returns-then-not-formed

@@ -1,5 +1,4 @@
 use Rattle.station.specs.Calls.{power_cut_said}
-use borrow.Author.Rules.{rules}
 use Rattle.station.proofs.Station.power_cut.Goals as goal
 
 pub returns-then-not-formed : goal.returns-then-not-formed

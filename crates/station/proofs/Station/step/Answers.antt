@@ -1,5 +1,4 @@
 use Rattle.station.specs.Events.{event_said}
-use borrow.Author.Rules.{rules}
 use Rattle.station.proofs.Station.step.Goals as goal
 
 pub returns-in-Open : goal.returns-in-Open

@@ -1,5 +1,4 @@
 use Rattle.station.specs.Arrival.{ack_at_established}
-use borrow.Author.Rules.{rules}
 use Rattle.station.proofs.arrival.ack_at_established.Goals as goal
 
 pub returns-then-is_later : goal.returns-then-is_later

@@ -1,5 +1,4 @@
 use Rattle.station.specs.Arrival.{arrival_at}
-use borrow.Author.Rules.{rules}
 use Rattle.station.proofs.arrival.arrival_at.Goals as goal
 
 pub returns-in-Closed : goal.returns-in-Closed

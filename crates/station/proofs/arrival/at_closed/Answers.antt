@@ -1,5 +1,4 @@
 use Rattle.station.specs.Arrival.{at_closed}
-use borrow.Author.Rules.{rules}
 use Rattle.station.proofs.arrival.at_closed.Goals as goal
 
 pub returns-then-g : goal.returns-then-g

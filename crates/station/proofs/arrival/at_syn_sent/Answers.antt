@@ -1,5 +1,4 @@
 use Rattle.station.specs.Arrival.{at_syn_sent}
-use borrow.Author.Rules.{rules}
 use Rattle.station.proofs.arrival.at_syn_sent.Goals as goal
 
 pub returns-then-g : goal.returns-then-g

@@ -1,5 +1,4 @@
 use Rattle.station.specs.Arrival.{at_synchronized}
-use borrow.Author.Rules.{rules}
 use Rattle.station.proofs.arrival.at_synchronized.Goals as goal
 
 pub returns-then-not-in_window : goal.returns-then-not-in_window

@@ -1,5 +1,4 @@
 use Rattle.station.specs.Arrival.{in_window}
-use borrow.Author.Rules.{rules}
 use Rattle.station.proofs.arrival.in_window.Goals as goal
 
 pub returns : goal.returns

@@ -1,5 +1,4 @@
 use Rattle.station.specs.Arrival.{outside}
-use borrow.Author.Rules.{rules}
 use Rattle.station.proofs.arrival.outside.Goals as goal
 
 pub returns-then-g : goal.returns-then-g

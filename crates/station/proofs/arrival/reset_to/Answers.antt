@@ -1,5 +1,4 @@
 use Rattle.station.specs.Arrival.{reset_to}
-use borrow.Author.Rules.{rules}
 use Rattle.station.proofs.arrival.reset_to.Goals as goal
 
 pub returns-then-is-s : goal.returns-then-is-s

@@ -1,5 +1,4 @@
 use Rattle.station.specs.Arrival.{wrong_ack}
-use borrow.Author.Rules.{rules}
 use Rattle.station.proofs.arrival.wrong_ack.Goals as goal
 
 pub returns : goal.returns

@@ -1,5 +1,4 @@
 use Rattle.station.specs.Calls.{may_open}
-use borrow.Author.Rules.{rules}
 use Rattle.station.proofs.calls.may_open.Goals as goal
 
 pub returns : goal.returns

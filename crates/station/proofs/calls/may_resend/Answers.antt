@@ -1,5 +1,4 @@
 use Rattle.station.specs.Calls.{may_resend}
-use borrow.Author.Rules.{rules}
 use Rattle.station.proofs.calls.may_resend.Goals as goal
 
 pub returns : goal.returns

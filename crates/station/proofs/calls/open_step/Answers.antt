@@ -1,5 +1,4 @@
 use Rattle.station.specs.Calls.{open_step}
-use borrow.Author.Rules.{rules}
 use Rattle.station.proofs.calls.open_step.Goals as goal
 
 pub returns : goal.returns

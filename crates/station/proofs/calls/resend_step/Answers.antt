@@ -1,5 +1,4 @@
 use Rattle.station.specs.Calls.{resend_step}
-use borrow.Author.Rules.{rules}
 use Rattle.station.proofs.calls.resend_step.Goals as goal
 
 pub returns-then-is : goal.returns-then-is

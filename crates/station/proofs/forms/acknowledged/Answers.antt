@@ -1,5 +1,4 @@
 use Rattle.station.specs.Forms.{acknowledged}
-use borrow.Author.Rules.{rules}
 use Rattle.station.proofs.forms.acknowledged.Goals as goal
 
 pub returns : goal.returns

@@ -1,5 +1,4 @@
 use Rattle.station.specs.Forms.{closed_of}
-use borrow.Author.Rules.{rules}
 use Rattle.station.proofs.forms.closed.Goals as goal
 
 pub returns : goal.returns

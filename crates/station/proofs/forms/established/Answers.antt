@@ -1,5 +1,4 @@
 use Rattle.station.specs.Forms.{established_of}
-use borrow.Author.Rules.{rules}
 use Rattle.station.proofs.forms.established.Goals as goal
 
 pub returns : goal.returns

@@ -1,5 +1,4 @@
 use Rattle.station.specs.Forms.{form_at}
-use borrow.Author.Rules.{rules}
 use Rattle.station.proofs.forms.form_at.Goals as goal
 
 pub returns-in-Closed : goal.returns-in-Closed

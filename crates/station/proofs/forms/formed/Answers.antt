@@ -1,5 +1,4 @@
 use Rattle.station.specs.Forms.{formed}
-use borrow.Author.Rules.{rules}
 use Rattle.station.proofs.forms.formed.Goals as goal
 
 pub returns : goal.returns

@@ -1,5 +1,4 @@
 use Rattle.station.specs.Forms.{listen_of}
-use borrow.Author.Rules.{rules}
 use Rattle.station.proofs.forms.listening.Goals as goal
 
 pub returns : goal.returns

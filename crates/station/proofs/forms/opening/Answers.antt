@@ -1,5 +1,4 @@
 use Rattle.station.specs.Forms.{opening}
-use borrow.Author.Rules.{rules}
 use Rattle.station.proofs.forms.opening.Goals as goal
 
 pub returns : goal.returns

@@ -1,5 +1,4 @@
 use Rattle.station.specs.Forms.{received_of}
-use borrow.Author.Rules.{rules}
 use Rattle.station.proofs.forms.received.Goals as goal
 
 pub returns : goal.returns

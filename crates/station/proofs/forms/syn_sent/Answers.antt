@@ -1,5 +1,4 @@
 use Rattle.station.specs.Forms.{syn_sent_of}
-use borrow.Author.Rules.{rules}
 use Rattle.station.proofs.forms.syn_sent.Goals as goal
 
 pub returns : goal.returns

@@ -1,5 +1,4 @@
 use Rattle.station.specs.Forms.{synchronized}
-use borrow.Author.Rules.{rules}
 use Rattle.station.proofs.forms.synchronized.Goals as goal
 
 pub returns : goal.returns

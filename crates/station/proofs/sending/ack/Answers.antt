@@ -1,5 +1,4 @@
 use Rattle.station.specs.Sent.{ack_of}
-use borrow.Author.Rules.{rules}
 use Rattle.station.proofs.sending.ack.Goals as goal
 
 pub returns : goal.returns

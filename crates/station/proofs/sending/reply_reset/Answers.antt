@@ -1,5 +1,4 @@
 use Rattle.station.specs.Sent.{reply_reset}
-use borrow.Author.Rules.{rules}
 use Rattle.station.proofs.sending.reply_reset.Goals as goal
 
 pub returns-then-g : goal.returns-then-g

@@ -1,5 +1,4 @@
 use Rattle.station.specs.Sent.{rst_of}
-use borrow.Author.Rules.{rules}
 use Rattle.station.proofs.sending.rst.Goals as goal
 
 pub returns : goal.returns

@@ -1,5 +1,4 @@
 use Rattle.station.specs.Sent.{syn_of}
-use borrow.Author.Rules.{rules}
 use Rattle.station.proofs.sending.syn.Goals as goal
 
 pub returns : goal.returns

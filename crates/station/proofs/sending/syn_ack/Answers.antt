@@ -1,5 +1,4 @@
 use Rattle.station.specs.Sent.{syn_ack_of}
-use borrow.Author.Rules.{rules}
 use Rattle.station.proofs.sending.syn_ack.Goals as goal
 
 pub returns : goal.returns
