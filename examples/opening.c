@@ -1,7 +1,7 @@
 /* An opening between two records, by octets: the office opens, the box listens. It prints examples/opening.expected.
  *
- *     rt staticlib boundary
- *     gcc -std=c11 -Wall -Wextra -O2 -I crates/boundary examples/opening.c target/staticlib/libboundary.a -o opening
+ *     (cd crates/boundary && rt lib)
+ *     gcc -std=c11 -Wall -Wextra -O2 -I crates/boundary examples/opening.c crates/boundary/out/libboundary.a -o opening
  *     ./opening
  */
 #include <stdio.h>

@@ -1,7 +1,7 @@
 //! An opening between two records, by octets: the office opens, the box listens. It prints examples/opening.expected.
 //!
-//!     rt staticlib boundary
-//!     rustc --edition 2021 -O -L native=target/staticlib examples/opening.rs -o opening
+//!     (cd crates/boundary && rt lib)
+//!     rustc --edition 2021 -O -L native=crates/boundary/out examples/opening.rs -o opening
 //!     ./opening
 #[path = "../crates/boundary/tabor.rs"]
 mod tabor;

@@ -607,7 +607,8 @@ fn crates_drawn(list: &str) -> String {
     let mut after: Vec<&str> = vec![];
     for line in list.lines().map(str::trim).filter(|l| !l.is_empty() && !l.starts_with('#')) {
         let Some((name, rest)) = line.split_once(':') else { fail(&format!("crates.txt: no colon in {line}")) };
-        names.push(name.trim());
+        // what stands behind a name, as `staticlib`, is no part of it
+        names.push(name.split_whitespace().next().unwrap_or(name));
         after.push(rest);
     }
     // what each uses, of the crates listed; those of the kit are not
