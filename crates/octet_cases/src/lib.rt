@@ -2,6 +2,7 @@
 // of the program: what the crate cases is for a station and its links. Each theorem is promised by a
 // function that does nothing, and is computed.
 #![tactic(auto)]
+
 ghost use Rattle.octet_cases.specs.Octets.{Reading, Arriving, Writing};
 ghost use Rattle.octet_cases.specs.Program.{Program};
 

@@ -2,13 +2,9 @@ use mathlib.Core.Path.{refl}
 use Rattle.checksum.specs.Sum.{words, added_back, carried, address_words, sum_of, checksum_of}
 use Rattle.segment.specs.Write.{made, write_tests, write_said, write_leaves}
 use Rattle.examples.proofs.Each.{◌&◌}
-use Rattle.octet_cases.proofs.of_writing.Statement.{statement}
-use Rattle.octet_cases.proofs.of_writing.Tie as tie
+use Rattle.octet_cases.proofs.of_writing.Goals as goal
 
 -- every case is computed
-returns : tie.Need-returns
+pub returns : goal.returns
 unfolding words added_back carried address_words sum_of checksum_of made write_tests write_said write_leaves
 returns c = (refl, refl) & (refl, refl) & (refl, refl) & (refl, refl) & (refl, refl) & tt
-
-pub of-writing-spec : {M : Type 1} → statement M
-of-writing-spec = tie.close (tie.spec returns)

@@ -4,8 +4,7 @@ use Rattle.segment.specs.Read.{field_tests, read_tests, read_said}
 use Rattle.examples.proofs.Each.{◌&◌}
 use Rattle.octet_cases.specs.Octets.{longest}
 use Rattle.examples.specs.Spelled.{AllHold}
-use Rattle.octet_cases.proofs.of_reading.Statement.{statement}
-use Rattle.octet_cases.proofs.of_reading.Tie as tie
+use Rattle.octet_cases.proofs.of_reading.Goals as goal
 
 -- by the length alone, and by octet 12
 long : AllHold longest
@@ -13,13 +12,10 @@ unfolding field_tests read_tests read_said
 long = (λ s h. simp h) & (λ s h t. simp (h, t)) & tt
 
 -- every other case is computed
-returns : tie.Need-returns
+pub returns : goal.returns
 unfolding words added_back carried address_words sum_of field_tests read_tests read_said
 returns c = (
   refl & refl & refl & refl & refl & tt,
   refl & refl & refl & refl & refl & refl & refl & refl & refl & refl & tt,
   long,
 )
-
-pub of-reading-spec : {M : Type 1} → statement M
-of-reading-spec = tie.close (tie.spec returns)
