@@ -10,10 +10,8 @@ use Rattle.model.specs.declared.Model.{Model}
 use Rattle.model.specs.declared.Event.{Event}
 use Rattle.model.specs.declared.Totals.{Totals}
 use Rattle.model.specs.declared.Report.{Report}
-use Rattle.model.specs.declared.Report.TheVariants as Report
 use Rattle.model.specs.declared.Played.{Played}
 use Rattle.model.specs.declared.Answer.{Answer}
-use Rattle.model.specs.declared.Answer.TheVariants as Answer
 use Rattle.model.specs.declared.Stepped.{Stepped}
 use Rattle.model.specs.Step.{Moved, Reply, said_answer, reply_of, model_after, Tells}
 use Rattle.model.specs.Play.{Run, play_said, model_played, said_report, totals_of, Reports, Plays}

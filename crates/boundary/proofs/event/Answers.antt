@@ -1,4 +1,3 @@
-use borrow.Author.Rules.{rules}
 use Rattle.boundary.proofs.event.Goals as goal
 
 pub returns-then-not-known : goal.returns-then-not-known

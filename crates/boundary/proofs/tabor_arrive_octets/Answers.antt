@@ -1,6 +1,5 @@
 use mathlib.Core.Path.{sym}
 use Rattle.datagram.proofs.Sending.{replies}
-use borrow.Author.Rules.{rules}
 use Rattle.boundary.proofs.tabor_arrive_octets.Goals as goal
 
 pub returns-then-not-known : goal.returns-then-not-known

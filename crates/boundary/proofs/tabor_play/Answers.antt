@@ -1,5 +1,4 @@
 use mathlib.Core.Path.{ap, ◌∙◌}
-use borrow.Author.Rules.{rules}
 use Rattle.telling.specs.Told.{played_of}
 use Rattle.boundary.proofs.Reported.{played_whole}
 use Rattle.boundary.proofs.tabor_play.Goals as goal

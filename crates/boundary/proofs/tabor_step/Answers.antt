@@ -1,5 +1,4 @@
 use mathlib.Core.Path.{ap, ◌∙◌}
-use borrow.Author.Rules.{rules}
 use Rattle.telling.specs.Told.{stepped_of}
 use Rattle.boundary.proofs.Reported.{answered}
 use Rattle.boundary.proofs.tabor_step.Goals as goal

@@ -1,7 +1,6 @@
 use mathlib.Core.Path.{refl, ap}
 use Rattle.station.specs.Outcomes.{said}
 use Rattle.boundary.proofs.Room.{no_room, room}
-use borrow.Author.Rules.{rules}
 use Rattle.boundary.proofs.answering.answered.Goals as goal
 
 pub returns-then-out-lt20 : goal.returns-then-out-lt20

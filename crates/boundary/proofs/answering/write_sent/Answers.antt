@@ -1,5 +1,4 @@
 use Rattle.boundary.proofs.Room.{written_there}
-use borrow.Author.Rules.{rules}
 use Rattle.boundary.proofs.answering.write_sent.Goals as goal
 
 pub returns-in-One : goal.returns-in-One
