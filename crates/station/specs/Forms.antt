@@ -1,5 +1,5 @@
 -- A station's record and its forms (01, "A station's record").
-use Rattle.std.specs.Prelude.{ℕ, Bool, true, false, not, ◌&&◌, eqb, ltb, if◌then◌else◌}
+use Rattle.std.specs.Prelude.{ℕ, Bool, true, false, not, ◌&&◌, eqb, ltb}
 use Rattle.seq.specs.Seq.{plus}
 use Rattle.station.specs.declared.State.{State}
 use Rattle.station.specs.declared.State.TheVariants.{Closed, Listen, SynSent, SynReceived, Established}

@@ -85,6 +85,7 @@ pub enum Event {
 
 impl Station {
     // From CLOSED or LISTEN to SYN-SENT with a number; SYN is sent. Refusals 1, 7.
+    #[tactic(auto, unfolding(crate::specs::Calls::open_said))]
     pub fn open(self, n: u32) -> Outcome
         ensures { said result ≡ open_said self n }
     {
