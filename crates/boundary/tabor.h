@@ -1,4 +1,4 @@
-/* The proved TCP station for C: link target/staticlib/libboundary.a, which `rt staticlib boundary` writes.
+/* The proved TCP station for C: link crates/boundary/out/libboundary.a, which `rt lib` in crates/boundary writes.
  * Of the C library it needs memcpy, memmove and memset.
  *
  * Every function takes any octets and any numbers and answers by the rules of the papers. A refusal is

@@ -1,5 +1,5 @@
 //! The proved TCP station for Rust: what `tabor.h` says for C, declared again.
-//! Include it as a module and link `target/staticlib/libboundary.a`.
+//! Include it as a module and link `crates/boundary/out/libboundary.a`.
 //! Addresses, ports and sequence numbers are plain numbers: 10.0.0.1 is 0x0a000001.
 #![allow(dead_code)]
 

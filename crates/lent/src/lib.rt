@@ -44,8 +44,8 @@ fn tell(s: Station, o: Outcome) -> Told
     }
 }
 
-// ---- the lent calls. Each makes the station's call on a copy of the record and stores the next one,
-// and no more: code behind a `&mut` of a struct is proved by hand, and this is one walk for all seven.
+// ---- the lent calls. Each makes the station's call on a copy of the record and stores the next one, and
+// no more.
 
 pub fn open_lent(s: &mut Station, n: u32) -> Answer
     ensures { Lent s.old (open_said s.old n) s.new result }
