@@ -1,6 +1,6 @@
 #!/usr/bin/env python3
 """Spells this repository's own definitions and lemmas as today's Rattle does: words in snake case, a dash only between two
-names of definitions, no middle dot. Run once, at the top, after /opt/rattle/port/port.py; respelled.tsv beside it has the
+names of definitions, no middle dot. Run once, at the top, after the kit's port/port.py; respelled.tsv beside it has the
 table, old and new. Rust's own names, strings, inputs and outputs are not touched."""
 import glob
 import os
