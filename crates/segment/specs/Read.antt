@@ -1,13 +1,10 @@
 -- Reading (01, "Octets of a segment"; its table, "a header read 2, 3, 4, 6; octets arriving at a station 1 to 6").
-use Rattle.std.specs.Prelude.{ℕ, ◌-◌, ◌*◌, ◌≡◌, Bool, not, ◌||◌, List, [], ◌∷◌, ◌++◌, length, ltb, eqb}
+use Rattle.std.specs.Prelude.{ℕ, ◌-◌, ◌*◌, ◌≡◌, Bool, not, ◌||◌, List, [], ◌∷◌, ◌++◌, length, ltb, eqb, Result}
 use Rattle.checksum.specs.Sum.{sum_of}
 use Rattle.segment.specs.declared.Header.{Header}
 use Rattle.segment.specs.declared.Segment.{Segment}
-use Rattle.segment.specs.declared.Reading.{Reading}
-use Rattle.segment.specs.declared.Reading.TheVariants as reading
-use Rattle.segment.specs.declared.Arriving.{Arriving}
-use Rattle.segment.specs.declared.Arriving.TheVariants as arriving
-use Rattle.segment.specs.Refusals.{number, Said, refused, given, Test, refuse◌when◌, first_of}
+use Rattle.segment.specs.declared.Refusal.{Refusal}
+use Rattle.segment.specs.Refusals.{Said, said, Test, refuse◌when◌, first_of}
 use Rattle.segment.specs.Octets.{header_words, fields_at}
 
 -- 2: "fewer than 20 or more than 65,515 octets"
@@ -54,20 +51,10 @@ fields_said src dst s = first_of (field_tests src dst s) (segment_at src dst s)
 unfoldable pub read_said : ℕ → ℕ → List ℕ → Said Header
 read_said src dst s = first_of (read_tests src dst s) (fields_at s)
 
--- the number and values of each answer to octets arriving
-abbrev pub said_arriving : Arriving → Said Segment
-said_arriving (arriving.Refused r) = refused (number r)
-said_arriving (arriving.Whole g) = given g
-
--- the number and values of each answer to a header read
-abbrev pub said_reading : Reading → Said Header
-said_reading (reading.Refused r) = refused (number r)
-said_reading (reading.Fields h) = given h
-
 -- the promise of `fields_with_text`
-abbrev pub FieldsSay : ℕ → ℕ → List ℕ → Arriving → Type 0
-FieldsSay src dst s r = said_arriving r ≡ fields_said src dst s
+abbrev pub FieldsSay : ℕ → ℕ → List ℕ → Result Segment Refusal → Type 0
+FieldsSay src dst s r = said r ≡ fields_said src dst s
 
 -- the promise of `read`
-abbrev pub ReadSays : ℕ → ℕ → List ℕ → Reading → Type 0
-ReadSays src dst s r = said_reading r ≡ read_said src dst s
+abbrev pub ReadSays : ℕ → ℕ → List ℕ → Result Header Refusal → Type 0
+ReadSays src dst s r = said r ≡ read_said src dst s

@@ -1,10 +1,9 @@
 -- The theorems of reading and writing (01, "Octets of a segment", its table of refusals, "How far a contract must go").
-use Rattle.std.specs.Prelude.{ℕ, ◌*◌, ◌≤◌, ◌<◌, ◌≡◌, true, List, [], ◌∷◌, ◌++◌, ◌⊎◌, ◌↔◌, length, get_or, take, drop}
+use Rattle.std.specs.Prelude.{ℕ, ◌*◌, ◌≤◌, ◌<◌, ◌≡◌, true, List, [], ◌∷◌, ◌++◌, ◌⊎◌, ◌↔◌, length, get_or, take, drop, Result}
 use Rattle.checksum.specs.Sum.{at16, sum_of}
 use Rattle.segment.specs.declared.Header.{Header}
-use Rattle.segment.specs.declared.Reading.{Reading}
-use Rattle.segment.specs.declared.Arriving.{Arriving}
-use Rattle.segment.specs.declared.Writing.{Writing}
+use Rattle.segment.specs.declared.Segment.{Segment}
+use Rattle.segment.specs.declared.Refusal.{Refusal}
 use Rattle.segment.specs.Refusals.{refused, given, Row, row◌given_when◌, ByRows}
 use Rattle.segment.specs.Octets.{fields_at, header_words, reserved}
 use Rattle.segment.specs.Read.{text_length, fields_said, read_said, FieldsSay, ReadSays}
@@ -55,7 +54,7 @@ pub record RefusalsExact : Type 0 where
 
 -- the promises leave one outcome (01, "How far a contract must go")
 pub record OneOutcome : Type 0 where
-  pub arriving : (src dst : ℕ) (s : List ℕ) (r r' : Arriving) → FieldsSay src dst s r → FieldsSay src dst s r' → r ≡ r'
-  pub reading : (src dst : ℕ) (s : List ℕ) (r r' : Reading) → ReadSays src dst s r → ReadSays src dst s r' → r ≡ r'
-  pub writing : (src dst : ℕ) (h : Header) (out o o' : List ℕ) (r r' : Writing)
+  pub arriving : (src dst : ℕ) (s : List ℕ) (r r' : Result Segment Refusal) → FieldsSay src dst s r → FieldsSay src dst s r' → r ≡ r'
+  pub reading : (src dst : ℕ) (s : List ℕ) (r r' : Result Header Refusal) → ReadSays src dst s r → ReadSays src dst s r' → r ≡ r'
+  pub writing : (src dst : ℕ) (h : Header) (out o o' : List ℕ) (r r' : Result Unit Refusal)
       → WriteSays src dst h out o r → WriteSays src dst h out o' r' → (r ≡ r') × (o ≡ o')

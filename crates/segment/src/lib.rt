@@ -11,7 +11,7 @@ ghost use Rattle.segment.specs.Write.{made, WriteSays};
 ghost use Rattle.segment.specs.Theorems.{ReadsBack, WritesBack, RefusalsExact, OneOutcome};
 
 // The eight control bits, high to low.
-#[derive(Clone, Copy)]
+#[derive(Clone, Copy, Debug, Default, PartialEq, Eq)]
 pub struct Control {
     pub cwr: bool,
     pub ece: bool,
@@ -24,7 +24,7 @@ pub struct Control {
 }
 
 // The header's fields. Header length, reserved bits and checksum are the writer's, and no fields.
-#[derive(Clone, Copy)]
+#[derive(Clone, Copy, Debug, Default, PartialEq, Eq)]
 pub struct Header {
     // Source port.
     pub source: u16,
@@ -42,7 +42,7 @@ pub struct Header {
 }
 
 // A segment: a header's fields, two addresses and a length of text.
-#[derive(Clone, Copy)]
+#[derive(Clone, Copy, Debug, Default, PartialEq, Eq)]
 pub struct Segment {
     pub header: Header,
     // Source address.
@@ -52,52 +52,31 @@ pub struct Segment {
     pub text: u32,
 }
 
-// What is refused. `number` has 01's number for each.
-#[derive(Clone, Copy)]
+// What is refused, each with 01's number.
+#[derive(Clone, Copy, Debug, PartialEq, Eq)]
 pub enum Refusal {
     // The record is not of the forms, a link's count is above 32, or the endpoints do not mirror.
-    Form,
+    Form = 1,
     // Fewer than 20 or more than 65,515 octets.
-    Size,
+    Size = 2,
     // A header length below 5 words or beyond the octets.
-    HeaderLength,
-    Checksum,
+    HeaderLength = 3,
+    Checksum = 4,
     // Addresses or ports that are not of this connection.
-    Endpoints,
-    FinOrText,
+    Endpoints = 5,
+    FinOrText = 6,
     // An open or a listen from a state not named for it.
-    OpenOrListen,
+    OpenOrListen = 7,
     // An abort in CLOSED, a resend outside SYN-SENT and SYN-RECEIVED.
-    AbortOrResend,
+    AbortOrResend = 8,
     // No such place on the link.
-    Place,
+    Place = 9,
     // Output below 20 octets.
-    Output,
+    Output = 10,
     // A copy onto a full link.
-    CopyFull,
+    CopyFull = 11,
     // More than 4,096 events.
-    Events,
-}
-
-// What a reading of a header answers.
-#[derive(Clone, Copy)]
-pub enum Reading {
-    Refused(Refusal),
-    Fields(Header),
-}
-
-// What a reading of arriving octets answers.
-#[derive(Clone, Copy)]
-pub enum Arriving {
-    Refused(Refusal),
-    Whole(Segment),
-}
-
-// What a writing of a header answers.
-#[derive(Clone, Copy)]
-pub enum Writing {
-    Refused(Refusal),
-    Written,
+    Events = 12,
 }
 
 impl Refusal {
@@ -105,36 +84,20 @@ impl Refusal {
     pub fn number(self) -> u8
         ensures { result ≡ number self }
     {
-        match self {
-            Refusal::Form => 1,
-            Refusal::Size => 2,
-            Refusal::HeaderLength => 3,
-            Refusal::Checksum => 4,
-            Refusal::Endpoints => 5,
-            Refusal::FinOrText => 6,
-            Refusal::OpenOrListen => 7,
-            Refusal::AbortOrResend => 8,
-            Refusal::Place => 9,
-            Refusal::Output => 10,
-            Refusal::CopyFull => 11,
-            Refusal::Events => 12,
-        }
+        self as u8
     }
 }
 
 // ---- numbers in octets
 
-fn wide(x: u8) -> u32
-    ensures { (result ≡ x) × (result < 256) }
-{
-    x as u32
-}
-
 // The octet at a place, 0 past the end.
 pub fn octet(s: &[u8], at: usize) -> u32
     ensures { (result ≡ get_or s.now at 0) × (result < 256) }
 {
-    if at < s.len() { wide(s[at]) } else { 0 }
+    match s.get(at) {
+        Some(x) => u32::from(*x),
+        None => 0,
+    }
 }
 
 // The 16-bit number at a place, high octet first. A place among the first 65,536 is enough for every
@@ -220,20 +183,19 @@ fn header_length_wrong(s: &[u8]) -> bool
 fn checksum_wrong(src: u32, dst: u32, s: &[u8]) -> bool
     ensures { result ≡ checksum_wrong src dst s.now }
 {
-    !(checksum::sum(src, dst, s) == 65535)
+    checksum::sum(src, dst, s) != 65535
 }
 
 // The fields, whatever the octets.
 fn fields_at(s: &[u8]) -> Header
     ensures { result ≡ fields_at s.now }
 {
-    let control = control_at(octet(s, 13));
     Header {
         source: get16(s, 0),
         destination: get16(s, 2),
         seq: get32(s, 4),
         ack: get32(s, 8),
-        control,
+        control: control_at(octet(s, 13)),
         window: get16(s, 14),
         urgent: get16(s, 18),
     }
@@ -252,109 +214,65 @@ fn text_length(s: &[u8]) -> u32
 pub fn fin_or_text(g: Segment) -> bool
     ensures { result ≡ fin_or_text g }
 {
-    let header = g.header;
-    let control = header.control;
-    control.fin | (0 < g.text)
+    g.header.control.fin | (0 < g.text)
 }
 
 // Octets that arrive: the segment they are, or refusal 2, 3 or 4, in that order. 5 and 6 are its
 // station's to test.
-pub fn fields_with_text(src: u32, dst: u32, s: &[u8]) -> Arriving
+#[tactic(auto, unfolding(crate::specs::Read::fields_said, crate::specs::Read::field_tests))]
+pub fn fields_with_text(src: u32, dst: u32, s: &[u8]) -> Result<Segment, Refusal>
     ensures { FieldsSay src dst s.now result }
 {
     if size_wrong(s) {
-        return Arriving::Refused(Refusal::Size);
+        return Err(Refusal::Size);
     }
     if header_length_wrong(s) {
-        return Arriving::Refused(Refusal::HeaderLength);
+        return Err(Refusal::HeaderLength);
     }
     if checksum_wrong(src, dst, s) {
-        return Arriving::Refused(Refusal::Checksum);
+        return Err(Refusal::Checksum);
     }
-    let header = fields_at(s);
-    let text = text_length(s);
-    Arriving::Whole(Segment {
-        header,
+    Ok(Segment {
+        header: fields_at(s),
         src,
         dst,
-        text,
+        text: text_length(s),
     })
 }
 
 // A header read: its fields, or refusal 2, 3, 4 or 6, in that order.
-pub fn read(src: u32, dst: u32, s: &[u8]) -> Reading
+#[tactic(auto, unfolding(crate::specs::Read::read_said, crate::specs::Read::read_tests, crate::specs::Read::fields_said, crate::specs::Read::field_tests))]
+pub fn read(src: u32, dst: u32, s: &[u8]) -> Result<Header, Refusal>
     ensures { ReadSays src dst s.now result }
 {
-    let arriving = fields_with_text(src, dst, s);
-    match arriving {
-        Arriving::Refused(refusal) => Reading::Refused(refusal),
-        Arriving::Whole(g) => {
-            if fin_or_text(g) {
-                return Reading::Refused(Refusal::FinOrText);
-            }
-            let header = g.header;
-            Reading::Fields(header)
-        }
+    let g = fields_with_text(src, dst, s)?;
+    if fin_or_text(g) {
+        return Err(Refusal::FinOrText);
     }
+    Ok(g.header)
 }
 
 // ---- writing
 
-// Twenty octets from plain numbers.
-fn twenty(
-    source: u16,
-    destination: u16,
-    seq: u32,
-    ack: u32,
-    control: u8,
-    window: u16,
-    check: u16,
-    urgent: u16,
-) -> [u8; 20]
-    ensures { result ≡ two source ++ two destination ++ four seq ++ four ack ++ (5 * 16 ∷ []) ++ (control ∷ []) ++ two window ++ two check ++ two urgent }
-{
-    [
-        (source / 256) as u8,
-        (source % 256) as u8,
-        (destination / 256) as u8,
-        (destination % 256) as u8,
-        (seq / 16777216) as u8,
-        (seq / 65536 % 256) as u8,
-        (seq / 256 % 256) as u8,
-        (seq % 256) as u8,
-        (ack / 16777216) as u8,
-        (ack / 65536 % 256) as u8,
-        (ack / 256 % 256) as u8,
-        (ack % 256) as u8,
-        80,
-        control,
-        (window / 256) as u8,
-        (window % 256) as u8,
-        (check / 256) as u8,
-        (check % 256) as u8,
-        (urgent / 256) as u8,
-        (urgent % 256) as u8,
-    ]
-}
-
-// The twenty octets of a header with a checksum.
+// The twenty octets of a header with a checksum, high octet first.
 fn octets(h: Header, check: u16) -> [u8; 20]
     ensures { result ≡ octets_of h check }
 {
-    let control = h.control;
-    twenty(
-        h.source,
-        h.destination,
-        h.seq,
-        h.ack,
-        control_octet(control),
-        h.window,
-        check,
-        h.urgent,
-    )
+    let [s1, s0] = h.source.to_be_bytes();
+    let [d1, d0] = h.destination.to_be_bytes();
+    let [q3, q2, q1, q0] = h.seq.to_be_bytes();
+    let [a3, a2, a1, a0] = h.ack.to_be_bytes();
+    let k = control_octet(h.control);
+    let [w1, w0] = h.window.to_be_bytes();
+    let [c1, c0] = check.to_be_bytes();
+    let [u1, u0] = h.urgent.to_be_bytes();
+    [
+        s1, s0, d1, d0, q3, q2, q1, q0, a3, a2, a1, a0, 80, k, w1, w0, c1, c0, u1, u0,
+    ]
 }
 
 // The twenty octets of a header with its own checksum.
+#[tactic(auto, unfolding(crate::specs::Write::made))]
 fn make(src: u32, dst: u32, h: Header) -> [u8; 20]
     ensures { result ≡ made src dst h }
 {
@@ -364,19 +282,18 @@ fn make(src: u32, dst: u32, h: Header) -> [u8; 20]
 
 // A header write: the first 20 octets of the output and no others, or refusal 6 or 10, in that
 // order, and the output as it was.
-pub fn write(src: u32, dst: u32, h: Header, out: &mut [u8]) -> Writing
+#[tactic(auto, unfolding(crate::specs::Write::write_said, crate::specs::Write::write_tests, crate::specs::Write::write_leaves))]
+pub fn write(src: u32, dst: u32, h: Header, out: &mut [u8]) -> Result<(), Refusal>
     ensures { WriteSays src dst h out.old out.new result }
 {
-    let control = h.control;
-    if control.fin {
-        return Writing::Refused(Refusal::FinOrText);
+    if h.control.fin {
+        return Err(Refusal::FinOrText);
     }
     if out.len() < 20 {
-        return Writing::Refused(Refusal::Output);
+        return Err(Refusal::Output);
     }
-    let full = make(src, dst, h);
-    out[..20].copy_from_slice(&full);
-    Writing::Written
+    out[..20].copy_from_slice(&make(src, dst, h));
+    Ok(())
 }
 
 // ---- theorems, each promised by a function that does nothing

@@ -1,7 +1,8 @@
 -- The theorems of one station (01, "A station's record", its table of refusals, "How far a contract must go").
-use Rattle.std.specs.Prelude.{ℕ, ◌<◌, ◌≡◌, true, false, List, [], ◌∷◌, ◌++◌, ◌⊎◌, ◌↔◌}
+use Rattle.std.specs.Prelude.{ℕ, ◌<◌, ◌≡◌, true, false, List, [], ◌∷◌, ◌++◌, ◌⊎◌, ◌↔◌, Result}
 use Rattle.seq.specs.Seq.{plus}
 use Rattle.segment.specs.declared.Segment.{Segment}
+use Rattle.segment.specs.declared.Refusal.{Refusal}
 use Rattle.segment.specs.Refusals.{Said, refused, given, Row, row◌given_when◌, ByRows}
 use Rattle.segment.specs.Read.{segment_at}
 use Rattle.segment.specs.Theorems.{field_rows}
@@ -13,7 +14,7 @@ use Rattle.station.specs.Events.{event_said}
 use Rattle.station.specs.declared.State.{State}
 use Rattle.station.specs.declared.State.TheVariants.{Closed, Listen, SynSent, SynReceived, Established}
 use Rattle.station.specs.declared.Station.{Station}
-use Rattle.station.specs.declared.Outcome.{Outcome}
+use Rattle.station.specs.declared.Done.{Done}
 use Rattle.station.specs.declared.Event.{Event}
 
 -- a record of the forms stays one, after every call and arrival that is taken
@@ -66,7 +67,7 @@ pub record RefusalsExact : Type 0 where
 
 -- the promises leave one outcome: one answer says what is defined
 pub record OneOutcome : Type 0 where
-  pub answers : (x : Said Step) (r r' : Outcome) → said r ≡ x → said r' ≡ x → r ≡ r'
+  pub answers : (x : Said Step) (r r' : Result Done Refusal) → said r ≡ x → said r' ≡ x → r ≡ r'
 
 -- "only by an open that is taken and by a LISTEN that takes a SYN" (01, "Two stations and their links")
 unfoldable pub Draws : Station → Event → Type 0

@@ -3,42 +3,49 @@ ghost use Rattle.std.specs.Prelude.{◌≡◌};
 ghost use Rattle.station.specs.Outcomes.{step_of};
 ghost use Rattle.station.specs.Calls.{may_open, open_step, abort_step, may_resend, resend_step};
 
-use crate::{Done, State, Station, forms, sending};
+use crate::{Done, State, Station};
 
-pub(crate) fn may_open(s: Station) -> bool
-    ensures { result ≡ may_open s }
-{
-    forms::is(State::Closed, s) | forms::is(State::Listen, s)
-}
-
-pub(crate) fn open_step(s: Station, n: u32) -> Done
-    ensures { step_of result ≡ open_step s n }
-{
-    let next = forms::syn_sent(s, n);
-    sending::drawing(next, sending::syn(next))
-}
-
-pub(crate) fn abort_step(s: Station) -> Done
-    ensures { step_of result ≡ abort_step s }
-{
-    let next = forms::closed(s);
-    if forms::is(State::SynReceived, s) | forms::is(State::Established, s) {
-        return sending::one(next, sending::rst(s, s.nxt));
+impl Station {
+    #[tactic(auto, unfolding(crate::specs::Calls::may_open))]
+    pub(crate) fn may_open(self) -> bool
+        ensures { result ≡ may_open self }
+    {
+        (self.state == State::Closed) | (self.state == State::Listen)
     }
-    sending::quiet(next)
-}
 
-pub(crate) fn may_resend(s: Station) -> bool
-    ensures { result ≡ may_resend s }
-{
-    forms::is(State::SynSent, s) | forms::is(State::SynReceived, s)
-}
-
-pub(crate) fn resend_step(s: Station) -> Done
-    ensures { step_of result ≡ resend_step s }
-{
-    if forms::is(State::SynSent, s) {
-        return sending::one(s, sending::syn(s));
+    #[tactic(auto, unfolding(crate::specs::Calls::open_step))]
+    pub(crate) fn open_step(self, n: u32) -> Done
+        ensures { step_of result ≡ open_step self n }
+    {
+        let next = self.syn_sent(n);
+        Done::drawing(next, next.syn())
     }
-    sending::one(s, sending::syn_ack(s))
+
+    #[tactic(auto, unfolding(crate::specs::Calls::abort_step))]
+    pub(crate) fn abort_step(self) -> Done
+        ensures { step_of result ≡ abort_step self }
+    {
+        let next = self.closed();
+        if (self.state == State::SynReceived) | (self.state == State::Established) {
+            return Done::sending(next, self.rst(self.nxt));
+        }
+        Done::quiet(next)
+    }
+
+    #[tactic(auto, unfolding(crate::specs::Calls::may_resend))]
+    pub(crate) fn may_resend(self) -> bool
+        ensures { result ≡ may_resend self }
+    {
+        (self.state == State::SynSent) | (self.state == State::SynReceived)
+    }
+
+    #[tactic(auto, unfolding(crate::specs::Calls::resend_step))]
+    pub(crate) fn resend_step(self) -> Done
+        ensures { step_of result ≡ resend_step self }
+    {
+        if self.state == State::SynSent {
+            return Done::sending(self, self.syn());
+        }
+        Done::sending(self, self.syn_ack())
+    }
 }

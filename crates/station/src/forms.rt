@@ -1,150 +1,133 @@
 // The forms of a record (01, "A station's record").
 ghost use Rattle.std.specs.Prelude.{◌≡◌};
-ghost use Rattle.station.specs.Forms.{place, is, zeroed, opening, acknowledged, synchronized, form_at, formed, with, closed_of, listen_of, syn_sent_of, received_of, established_of};
+ghost use Rattle.station.specs.Forms.{zeroed, opening, acknowledged, synchronized, form_at, formed, closed_of, listen_of, syn_sent_of, received_of, established_of};
 
 use crate::{State, Station};
 
-fn place(state: State) -> u8
-    ensures { result ≡ place state }
-{
-    match state {
-        State::Closed => 0,
-        State::Listen => 1,
-        State::SynSent => 2,
-        State::SynReceived => 3,
-        State::Established => 4,
+impl Station {
+    // ISS, UNA, NXT, IRS and RCV.NXT.
+    #[tactic(auto, unfolding(crate::specs::Forms::zeroed))]
+    fn zeroed(self) -> bool
+        ensures { result ≡ zeroed self }
+    {
+        (self.iss == 0) & (self.una == 0) & (self.nxt == 0) & (self.irs == 0) & (self.rcvnxt == 0)
     }
-}
 
-pub(crate) fn is(t: State, s: Station) -> bool
-    ensures { result ≡ is t s }
-{
-    let state = s.state;
-    place(state) == place(t)
-}
-
-// ISS, UNA, NXT, IRS and RCV.NXT.
-fn zeroed(s: Station) -> bool
-    ensures { result ≡ zeroed s }
-{
-    (s.iss == 0) & (s.una == 0) & (s.nxt == 0) & (s.irs == 0) & (s.rcvnxt == 0)
-}
-
-fn opening(s: Station) -> bool
-    ensures { result ≡ opening s }
-{
-    let next = seq::add(s.iss, 1);
-    (s.una == s.iss) & (s.nxt == next)
-}
-
-fn acknowledged(s: Station) -> bool
-    ensures { result ≡ acknowledged s }
-{
-    let next = seq::add(s.iss, 1);
-    (s.una == s.nxt) & (s.nxt == next)
-}
-
-fn synchronized(s: Station) -> bool
-    ensures { result ≡ synchronized s }
-{
-    let next = seq::add(s.irs, 1);
-    s.rcvnxt == next
-}
-
-fn form_at(s: Station) -> bool
-    ensures { result ≡ form_at s.state s }
-{
-    let state = s.state;
-    match state {
-        State::Closed => zeroed(s) & !s.passive,
-        State::Listen => zeroed(s) & s.passive,
-        State::SynSent => opening(s) & (s.irs == 0) & (s.rcvnxt == 0) & !s.passive,
-        State::SynReceived => opening(s) & synchronized(s),
-        State::Established => acknowledged(s) & synchronized(s),
+    #[tactic(auto, unfolding(crate::specs::Forms::opening))]
+    fn opening(self) -> bool
+        ensures { result ≡ opening self }
+    {
+        (self.una == self.iss) & (self.nxt == seq::add(self.iss, 1))
     }
-}
 
-// Whether a record is of the forms.
-pub fn formed(s: Station) -> bool
-    ensures { result ≡ formed s }
-{
-    form_at(s) & (0 < s.rcvwnd)
-}
-
-// Another state, mark and numbers.
-fn with(
-    s: Station,
-    state: State,
-    passive: bool,
-    iss: u32,
-    una: u32,
-    nxt: u32,
-    irs: u32,
-    rcvnxt: u32,
-) -> Station
-    ensures { result ≡ with s state passive iss una nxt irs rcvnxt }
-{
-    Station {
-        state,
-        passive,
-        iss,
-        una,
-        nxt,
-        irs,
-        rcvnxt,
-        rcvwnd: s.rcvwnd,
-        own: s.own,
-        ownport: s.ownport,
-        peer: s.peer,
-        peerport: s.peerport,
+    #[tactic(auto, unfolding(crate::specs::Forms::acknowledged))]
+    fn acknowledged(self) -> bool
+        ensures { result ≡ acknowledged self }
+    {
+        (self.una == self.nxt) & (self.nxt == seq::add(self.iss, 1))
     }
-}
 
-pub(crate) fn closed(s: Station) -> Station
-    ensures { result ≡ closed_of s }
-{
-    with(s, State::Closed, false, 0, 0, 0, 0, 0)
-}
+    #[tactic(auto, unfolding(crate::specs::Forms::synchronized))]
+    fn synchronized(self) -> bool
+        ensures { result ≡ synchronized self }
+    {
+        self.rcvnxt == seq::add(self.irs, 1)
+    }
 
-pub(crate) fn listening(s: Station) -> Station
-    ensures { result ≡ listen_of s }
-{
-    with(s, State::Listen, true, 0, 0, 0, 0, 0)
-}
+    #[tactic(auto, unfolding(crate::specs::Forms::form_at))]
+    fn form_at(self) -> bool
+        ensures { result ≡ form_at self.state self }
+    {
+        match self.state {
+            State::Closed => self.zeroed() & !self.passive,
+            State::Listen => self.zeroed() & self.passive,
+            State::SynSent => self.opening() & (self.irs == 0) & (self.rcvnxt == 0) & !self.passive,
+            State::SynReceived => self.opening() & self.synchronized(),
+            State::Established => self.acknowledged() & self.synchronized(),
+        }
+    }
 
-pub(crate) fn syn_sent(s: Station, iss: u32) -> Station
-    ensures { result ≡ syn_sent_of s iss }
-{
-    with(s, State::SynSent, false, iss, iss, seq::add(iss, 1), 0, 0)
-}
+    // Whether the record is of the forms.
+    #[tactic(auto, unfolding(crate::specs::Forms::formed))]
+    pub fn is_formed(self) -> bool
+        ensures { result ≡ formed self }
+    {
+        self.form_at() & (0 < self.rcvwnd)
+    }
 
-pub(crate) fn received(s: Station, passive: bool, iss: u32, irs: u32) -> Station
-    ensures { result ≡ received_of s passive iss irs }
-{
-    with(
-        s,
-        State::SynReceived,
-        passive,
-        iss,
-        iss,
-        seq::add(iss, 1),
-        irs,
-        seq::add(irs, 1),
-    )
-}
+    #[tactic(auto, unfolding(crate::specs::Forms::closed_of, crate::specs::Forms::with))]
+    pub(crate) fn closed(self) -> Station
+        ensures { result ≡ closed_of self }
+    {
+        Station {
+            state: State::Closed,
+            passive: false,
+            iss: 0,
+            una: 0,
+            nxt: 0,
+            irs: 0,
+            rcvnxt: 0,
+            ..self
+        }
+    }
 
-pub(crate) fn established(s: Station, passive: bool, iss: u32, irs: u32) -> Station
-    ensures { result ≡ established_of s passive iss irs }
-{
-    let next = seq::add(iss, 1);
-    with(
-        s,
-        State::Established,
-        passive,
-        iss,
-        next,
-        next,
-        irs,
-        seq::add(irs, 1),
-    )
+    #[tactic(auto, unfolding(crate::specs::Forms::closed_of, crate::specs::Forms::listen_of, crate::specs::Forms::with))]
+    pub(crate) fn listening(self) -> Station
+        ensures { result ≡ listen_of self }
+    {
+        Station {
+            state: State::Listen,
+            passive: true,
+            ..self.closed()
+        }
+    }
+
+    #[tactic(auto, unfolding(crate::specs::Forms::syn_sent_of, crate::specs::Forms::with))]
+    pub(crate) fn syn_sent(self, iss: u32) -> Station
+        ensures { result ≡ syn_sent_of self iss }
+    {
+        Station {
+            state: State::SynSent,
+            passive: false,
+            iss,
+            una: iss,
+            nxt: seq::add(iss, 1),
+            irs: 0,
+            rcvnxt: 0,
+            ..self
+        }
+    }
+
+    #[tactic(auto, unfolding(crate::specs::Forms::received_of, crate::specs::Forms::with))]
+    pub(crate) fn received(self, passive: bool, iss: u32, irs: u32) -> Station
+        ensures { result ≡ received_of self passive iss irs }
+    {
+        Station {
+            state: State::SynReceived,
+            passive,
+            iss,
+            una: iss,
+            nxt: seq::add(iss, 1),
+            irs,
+            rcvnxt: seq::add(irs, 1),
+            ..self
+        }
+    }
+
+    #[tactic(auto, unfolding(crate::specs::Forms::established_of, crate::specs::Forms::with))]
+    pub(crate) fn established(self, passive: bool, iss: u32, irs: u32) -> Station
+        ensures { result ≡ established_of self passive iss irs }
+    {
+        let next = seq::add(iss, 1);
+        Station {
+            state: State::Established,
+            passive,
+            iss,
+            una: next,
+            nxt: next,
+            irs,
+            rcvnxt: seq::add(irs, 1),
+            ..self
+        }
+    }
 }

@@ -4,29 +4,31 @@
 
 mod arrival;
 mod calls;
-pub mod forms;
+mod forms;
 mod sending;
 
-ghost use Rattle.std.specs.Prelude.{◌≡◌};
+ghost use Rattle.std.specs.Prelude.{◌≡◌, [], ◌∷◌};
+ghost use Rattle.segment.specs.Refusals.{first_of, said as segment_said};
 ghost use Rattle.station.specs.Outcomes.{said};
-ghost use Rattle.station.specs.Calls.{open_said, listen_said, abort_said, resend_said, power_cut_said};
+ghost use Rattle.station.specs.Calls.{bad_record, open_said, listen_said, abort_said, resend_said, power_cut_said};
 ghost use Rattle.station.specs.Arrival.{arrive_said, octets_said};
 ghost use Rattle.station.specs.Events.{event_said};
 ghost use Rattle.station.specs.Theorems.{KeepsForms, RefusalsExact, OneOutcome, DrawsExactly};
 
-use segment::{Arriving, Refusal, Segment};
+use segment::{Refusal, Segment};
 
-#[derive(Clone, Copy)]
+// The states, numbered in 01's order.
+#[derive(Clone, Copy, Debug, PartialEq, Eq)]
 pub enum State {
-    Closed,
-    Listen,
-    SynSent,
-    SynReceived,
-    Established,
+    Closed = 0,
+    Listen = 1,
+    SynSent = 2,
+    SynReceived = 3,
+    Established = 4,
 }
 
 // A station's record, in the words of 01 and the RFC.
-#[derive(Clone, Copy)]
+#[derive(Clone, Copy, Debug, PartialEq, Eq)]
 pub struct Station {
     pub state: State,
     // The mark for "opened passively".
@@ -50,30 +52,17 @@ pub struct Station {
     pub peerport: u16,
 }
 
-// A segment sent, or none.
-#[derive(Clone, Copy)]
-pub enum Sent {
-    Nothing,
-    One(Segment),
-}
-
 // A step that was taken: the next record, what was sent, and whether the number offered was drawn.
-#[derive(Clone, Copy)]
+#[derive(Clone, Copy, Debug, PartialEq, Eq)]
 pub struct Done {
     pub next: Station,
-    pub sent: Sent,
+    pub sent: Option<Segment>,
     pub drawn: bool,
-}
-
-#[derive(Clone, Copy)]
-pub enum Outcome {
-    Refused(Refusal),
-    Taken(Done),
 }
 
 // What can happen to a station: with a number to draw, with a whole segment and a fresh number, or
 // with nothing.
-#[derive(Clone, Copy)]
+#[derive(Clone, Copy, Debug, PartialEq, Eq)]
 pub enum Event {
     Open(u32),
     Listen,
@@ -84,101 +73,107 @@ pub enum Event {
 }
 
 impl Station {
+    // Refusal 1.
+    fn check_form(self) -> Result<(), Refusal>
+        ensures { segment_said result ≡ first_of (bad_record self ∷ []) tt }
+    {
+        if !self.is_formed() {
+            return Err(Refusal::Form);
+        }
+        Ok(())
+    }
+
     // From CLOSED or LISTEN to SYN-SENT with a number; SYN is sent. Refusals 1, 7.
     #[tactic(auto, unfolding(crate::specs::Calls::open_said))]
-    pub fn open(self, n: u32) -> Outcome
+    pub fn open(self, n: u32) -> Result<Done, Refusal>
         ensures { said result ≡ open_said self n }
     {
-        if !forms::formed(self) {
-            return Outcome::Refused(Refusal::Form);
+        self.check_form()?;
+        if !self.may_open() {
+            return Err(Refusal::OpenOrListen);
         }
-        if !calls::may_open(self) {
-            return Outcome::Refused(Refusal::OpenOrListen);
-        }
-        Outcome::Taken(calls::open_step(self, n))
+        Ok(self.open_step(n))
     }
 
     // From CLOSED to LISTEN. Refusals 1, 7.
-    pub fn listen(self) -> Outcome
+    #[tactic(auto, unfolding(crate::specs::Calls::listen_said))]
+    pub fn listen(self) -> Result<Done, Refusal>
         ensures { said result ≡ listen_said self }
     {
-        if !forms::formed(self) {
-            return Outcome::Refused(Refusal::Form);
+        self.check_form()?;
+        if self.state != State::Closed {
+            return Err(Refusal::OpenOrListen);
         }
-        if !forms::is(State::Closed, self) {
-            return Outcome::Refused(Refusal::OpenOrListen);
-        }
-        Outcome::Taken(sending::quiet(forms::listening(self)))
+        Ok(Done::quiet(self.listening()))
     }
 
     // To CLOSED, with a reset from SYN-RECEIVED and ESTABLISHED. Refusals 1, 8.
-    pub fn abort(self) -> Outcome
+    #[tactic(auto, unfolding(crate::specs::Calls::abort_said))]
+    pub fn abort(self) -> Result<Done, Refusal>
         ensures { said result ≡ abort_said self }
     {
-        if !forms::formed(self) {
-            return Outcome::Refused(Refusal::Form);
+        self.check_form()?;
+        if self.state == State::Closed {
+            return Err(Refusal::AbortOrResend);
         }
-        if forms::is(State::Closed, self) {
-            return Outcome::Refused(Refusal::AbortOrResend);
-        }
-        Outcome::Taken(calls::abort_step(self))
+        Ok(self.abort_step())
     }
 
     // The SYN or the SYN,ACK once more; the record stays. Refusals 1, 8.
-    pub fn resend(self) -> Outcome
+    #[tactic(auto, unfolding(crate::specs::Calls::resend_said))]
+    pub fn resend(self) -> Result<Done, Refusal>
         ensures { said result ≡ resend_said self }
     {
-        if !forms::formed(self) {
-            return Outcome::Refused(Refusal::Form);
+        self.check_form()?;
+        if !self.may_resend() {
+            return Err(Refusal::AbortOrResend);
         }
-        if !calls::may_resend(self) {
-            return Outcome::Refused(Refusal::AbortOrResend);
-        }
-        Outcome::Taken(calls::resend_step(self))
+        Ok(self.resend_step())
     }
 
     // Any state to CLOSED; endpoints and window stay. Refusal 1.
-    pub fn power_cut(self) -> Outcome
+    #[tactic(auto, unfolding(crate::specs::Calls::power_cut_said))]
+    pub fn power_cut(self) -> Result<Done, Refusal>
         ensures { said result ≡ power_cut_said self }
     {
-        if !forms::formed(self) {
-            return Outcome::Refused(Refusal::Form);
-        }
-        Outcome::Taken(sending::quiet(forms::closed(self)))
+        self.check_form()?;
+        Ok(Done::quiet(self.closed()))
     }
 
     // A segment arrives; the fresh number is drawn only where LISTEN takes a SYN. Refusals 1, 5, 6.
-    pub fn arrive(self, g: Segment, fresh: u32) -> Outcome
+    #[tactic(auto, unfolding(crate::specs::Arrival::arrive_said, crate::specs::Arrival::endpoint_tests))]
+    pub fn arrive(self, g: Segment, fresh: u32) -> Result<Done, Refusal>
         ensures { said result ≡ arrive_said self g fresh }
     {
-        if !forms::formed(self) {
-            return Outcome::Refused(Refusal::Form);
-        }
-        if !arrival::ours(self, g) {
-            return Outcome::Refused(Refusal::Endpoints);
+        self.check_form()?;
+        if !self.ours(g) {
+            return Err(Refusal::Endpoints);
         }
         if segment::fin_or_text(g) {
-            return Outcome::Refused(Refusal::FinOrText);
+            return Err(Refusal::FinOrText);
         }
-        Outcome::Taken(arrival::arrival_at(self, g, fresh))
+        Ok(self.arrival_at(g, fresh))
     }
 
     // Octets arrive between two addresses. Refusals 1 to 6, in that order.
-    pub fn arrive_octets(self, src: u32, dst: u32, octets: &[u8], fresh: u32) -> Outcome
+    #[tactic(auto, unfolding(crate::specs::Arrival::octets_said, crate::specs::Arrival::arrive_said, crate::specs::Arrival::endpoint_tests, segment::specs::Read::fields_said, segment::specs::Read::field_tests))]
+    pub fn arrive_octets(
+        self,
+        src: u32,
+        dst: u32,
+        octets: &[u8],
+        fresh: u32,
+    ) -> Result<Done, Refusal>
         ensures { said result ≡ octets_said self src dst octets.now fresh }
     {
-        if !forms::formed(self) {
-            return Outcome::Refused(Refusal::Form);
-        }
-        let arriving = segment::fields_with_text(src, dst, octets);
-        match arriving {
-            Arriving::Refused(refusal) => Outcome::Refused(refusal),
-            Arriving::Whole(g) => self.arrive(g, fresh),
-        }
+        self.check_form()?;
+        let g = segment::fields_with_text(src, dst, octets)?;
+        self.arrive(g, fresh)
     }
 
     // One event is the call of that event.
-    pub fn step(self, e: Event) -> Outcome
+    #[tactic(auto, unfolding(crate::specs::Events::event_said))]
+    pub fn step(self, e: Event) -> Result<Done, Refusal>
         ensures { said result ≡ event_said self e }
     {
         match e {

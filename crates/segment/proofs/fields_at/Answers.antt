@@ -1,4 +1,0 @@
-use Rattle.segment.proofs.fields_at.Goals as goal
-
-pub returns : goal.returns
-returns c = cc

@@ -1,4 +1,0 @@
-use Rattle.segment.proofs.octets.Goals as goal
-
-pub returns : goal.returns
-returns c = cc

@@ -1,8 +1,0 @@
-use Rattle.station.proofs.forms.is.Goals as goal
-
-pub returns : goal.returns
-returns c =
-    simp (
-      ← c.place-2.ensures,
-      ← c.place.ensures,
-    )
