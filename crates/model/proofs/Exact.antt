@@ -19,8 +19,8 @@ use Rattle.station.specs.declared.Station.{Station}
 use Rattle.station.specs.declared.Event.{Event as Call}
 use Rattle.station.proofs.Exact.{then as through, record_agrees, refusals_exact as station_refusals_exact}
 use Rattle.model.specs.Links.{full, has_place, at_place}
-use Rattle.model.specs.Step.{station_of, toward, mirrored, sound, Moved, moved, delivered, copied, lost, applied, step_said, model_after, said_answer, reply_of}
-use Rattle.model.specs.Play.{Run, play_said, model_played, said_report, totals_of}
+use Rattle.model.specs.Step.{station_of, toward, mirrored, sound, Moved, moved, delivered, copied, lost, applied, step_said, model_after, reply_of}
+use Rattle.model.specs.Play.{Run, play_said, model_played, totals_of}
 use Rattle.model.specs.Theorems.{Mirrored, model_row, behind, model_rows, RefusalsExact}
 use Rattle.model.specs.declared.Side.{Side}
 use Rattle.model.specs.declared.Link.{Link}
@@ -156,7 +156,7 @@ pub refusals_exact : RefusalsExact
 unfolding play_said
 refusals_exact = record {
   event = event_exact;
-  unchanged = λ m e r why t a. t.model ∙ after_refusal m (step_said m e) why (sym (ap said_answer a) ∙ t.answer);
+  unchanged = λ m e after why t. t.model ∙ after_refusal m (step_said m e) why t.answer;
   whole = λ m n es k. row_1 m _ k _ (λ s. row_first _ 12 k _ _ _ (below 4096 n) (λ e. row_none _ k));
-  unplayed = λ m n es r why t a. t.model ∙ played_refusal m (play_said m n es) why (sym (ap said_report a) ∙ t.report);
+  unplayed = λ m n es after why t. t.model ∙ played_refusal m (play_said m n es) why t.report;
 }

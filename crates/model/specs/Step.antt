@@ -1,7 +1,8 @@
 -- One event of the model (01, "Two stations and their links"; its table, "Who meets which").
-use Rattle.std.specs.Prelude.{ℕ, ◌≡◌, Bool, true, false, not, ◌&&◌, List, [], ◌∷◌, eqb, leb, if◌then◌else◌}
+use Rattle.std.specs.Prelude.{ℕ, ◌≡◌, Bool, true, false, not, ◌&&◌, List, [], ◌∷◌, eqb, leb, if◌then◌else◌, Result}
 use Rattle.segment.specs.declared.Segment.{Segment}
-use Rattle.segment.specs.Refusals.{number, Said, refused, given}
+use Rattle.segment.specs.declared.Refusal.{Refusal}
+use Rattle.segment.specs.Refusals.{Said, refused, given, said_as}
 use Rattle.station.specs.declared.Station.{Station}
 use Rattle.station.specs.declared.Event.TheVariants as Station
 use Rattle.station.specs.Forms.{formed}
@@ -14,9 +15,8 @@ use Rattle.model.specs.declared.Link.{Link}
 use Rattle.model.specs.declared.Model.{Model}
 use Rattle.model.specs.declared.Event.{Event}
 use Rattle.model.specs.declared.Event.TheVariants.{Open, Listen, Abort, Resend, PowerCut, Deliver, Copy, Lose}
-use Rattle.model.specs.declared.Answer.{Answer}
-use Rattle.model.specs.declared.Answer.TheVariants.{Refused, Taken}
-use Rattle.model.specs.declared.Stepped.{Stepped}
+use Rattle.model.specs.declared.Told.{Told}
+use Rattle.model.specs.declared.Next.{Next}
 
 -- the other station
 abbrev pub peer_of : Side → Side
@@ -59,6 +59,10 @@ pub record Moved : Type 0 where
   pub sent : List Segment
   pub drawn : Bool
   pub turned : Bool
+
+-- the values of an event taken
+abbrev pub moved_of : Next → Moved
+moved_of x = record { model = x.model; sent = segments x.told.sent; drawn = x.told.drawn; turned = x.told.turned }
 
 -- a link event taken: nothing sent
 abbrev pub relinked : Side → Model → Link → Moved
@@ -123,21 +127,24 @@ pub record Reply : Type 0 where
   pub drawn : Bool
   pub turned : Bool
 
+-- the values of an event's answer
+abbrev pub told_values : Told → Reply
+told_values t = record { sent = segments t.sent; drawn = t.drawn; turned = t.turned }
+
 -- the number and values of each answer
-abbrev pub said_answer : Answer → Said Reply
-said_answer (Refused r) = refused (number r)
-said_answer (Taken t) = given (record { sent = segments t.sent; drawn = t.drawn; turned = t.turned })
+abbrev pub said_answer : Result Told Refusal → Said Reply
+said_answer r = said_as told_values r
 
 -- an event's answer, without the model
 abbrev pub reply_of : Said Moved → Said Reply
 reply_of (refused n) = refused n
 reply_of (given x) = given (record { sent = x.sent; drawn = x.drawn; turned = x.turned })
 
--- what a promise says of an event: the answer, and the model after it
-pub record Tells (m : Model) (x : Said Moved) (r : Stepped) : Type 0 where
-  pub answer : said_answer r.answer ≡ reply_of x
-  pub model : r.model ≡ model_after m x
+-- what a promise says of an event: the answer, and the model at exit
+pub record Tells (before : Model) (x : Said Moved) (after : Model) (r : Result Told Refusal) : Type 0 where
+  pub answer : said_answer r ≡ reply_of x
+  pub model : after ≡ model_after before x
 
 -- the promise of `step`
-abbrev pub Steps : Model → Event → Stepped → Type 0
-Steps m e r = Tells m (step_said m e) r
+abbrev pub Steps : Model → Event → Model → Result Told Refusal → Type 0
+Steps m e after r = Tells m (step_said m e) after r

@@ -1,5 +1,5 @@
 -- The theorems of the model (01, "Two stations and their links", its table of refusals, "How far a contract must go").
-use Rattle.std.specs.Prelude.{ℕ, ◌+◌, ◌≤◌, ◌<◌, ◌≡◌, true, false, List, [], ◌∷◌, ◌++◌, ◌⊎◌, ◌↔◌, length, get_or, take, drop}
+use Rattle.std.specs.Prelude.{ℕ, ◌+◌, ◌≤◌, ◌<◌, ◌≡◌, true, false, List, [], ◌∷◌, ◌++◌, ◌⊎◌, ◌↔◌, length, get_or, take, drop, Result, Err}
 use Rattle.segment.specs.declared.Segment.{Segment}
 use Rattle.segment.specs.declared.Refusal.{Refusal}
 use Rattle.segment.specs.Refusals.{refused, given, Row, row◌given_when◌, ByRows}
@@ -13,10 +13,8 @@ use Rattle.model.specs.declared.Link.{Link}
 use Rattle.model.specs.declared.Model.{Model}
 use Rattle.model.specs.declared.Event.{Event}
 use Rattle.model.specs.declared.Event.TheVariants.{Open, Listen, Abort, Resend, PowerCut, Deliver, Copy, Lose}
-use Rattle.model.specs.declared.Answer.TheVariants as Answer
-use Rattle.model.specs.declared.Report.TheVariants as Report
-use Rattle.model.specs.declared.Stepped.{Stepped}
-use Rattle.model.specs.declared.Played.{Played}
+use Rattle.model.specs.declared.Told.{Told}
+use Rattle.model.specs.declared.Totals.{Totals}
 
 -- "the two stations' endpoints .. mirror each other", as facts
 unfoldable pub Mirrored : Model → Type 0
@@ -57,10 +55,10 @@ model_rows m (Lose x n) = model_row m ∷ place_row x m n ∷ []
 pub record RefusalsExact : Type 0 where
   pub event : (m : Model) (e : Event) (n : ℕ) → (step_said m e ≡ refused n) ↔ ByRows (model_rows m e) n
   -- "A refused event changes nothing": the model that comes with its answer is the one before it
-  pub unchanged : (m : Model) (e : Event) (r : Stepped) (why : Refusal) → Steps m e r → r.answer ≡ Answer.Refused why → r.model ≡ m
+  pub unchanged : (m : Model) (e : Event) (after : Model) (why : Refusal) → Steps m e after (Err why) → after ≡ m
   -- "a whole list 1, 12": "nothing is played"
   pub whole : (m : Model) (n : ℕ) (es : List Event) (k : ℕ) → (play_said m n es ≡ refused k) ↔ ByRows (model_row m ∷ row 12 given_when (4096 < n) ∷ []) k
-  pub unplayed : (m : Model) (n : ℕ) (es : List Event) (r : Played) (why : Refusal) → Plays m n es r → r.report ≡ Report.Refused why → r.model ≡ m
+  pub unplayed : (m : Model) (n : ℕ) (es : List Event) (after : Model) (why : Refusal) → Plays m n es after (Err why) → after ≡ m
 
 -- "A number is drawn only by an open that is taken and by a LISTEN that takes a SYN": by a call or a delivery where its station draws
 unfoldable pub Draws : Model → Event → Type 0
@@ -91,8 +89,8 @@ pub record DrawsExactly : Type 0 where
 
 -- the promises leave one outcome (01, "How far a contract must go")
 pub record OneOutcome : Type 0 where
-  pub event : (m : Model) (e : Event) (r r' : Stepped) → Steps m e r → Steps m e r' → r ≡ r'
-  pub whole : (m : Model) (n : ℕ) (es : List Event) (r r' : Played) → Plays m n es r → Plays m n es r' → r ≡ r'
+  pub event : (m : Model) (e : Event) (k k' : Model) (r r' : Result Told Refusal) → Steps m e k r → Steps m e k' r' → (r ≡ r') × (k ≡ k')
+  pub whole : (m : Model) (n : ℕ) (es : List Event) (k k' : Model) (r r' : Result Totals Refusal) → Plays m n es k r → Plays m n es k' r' → (r ≡ r') × (k ≡ k')
 
 -- a model that 1 does not refuse stays one, after every event that is taken and every list that is played
 pub record KeepsForms : Type 0 where

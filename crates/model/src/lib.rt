@@ -11,24 +11,25 @@ ghost use Rattle.model.specs.Play.{Plays};
 ghost use Rattle.model.specs.Theorems.{RefusalsExact, DrawsExactly, OneOutcome, KeepsForms, LinksMean};
 
 use segment::{Refusal, Segment};
-use station::{Sent, Station};
+use station::Station;
+use stepping::Sound;
 
 // One of the two stations.
-#[derive(Clone, Copy)]
+#[derive(Clone, Copy, Debug, PartialEq, Eq)]
 pub enum Side {
     A,
     B,
 }
 
 // A link: the first count slots hold segments, in the order sent.
-#[derive(Clone, Copy)]
+#[derive(Clone, Copy, Debug, PartialEq, Eq)]
 pub struct Link {
     pub slots: [Segment; 32],
     pub count: usize,
 }
 
 // Two stations, the link towards A and the link towards B.
-#[derive(Clone, Copy)]
+#[derive(Clone, Copy, Debug, PartialEq, Eq)]
 pub struct Model {
     pub a: Station,
     pub b: Station,
@@ -38,7 +39,7 @@ pub struct Model {
 
 // What can happen: the calls of a station and its power cut; a delivery to a station, by place on the
 // link towards it and with a fresh number; a copy and a loss on that link.
-#[derive(Clone, Copy)]
+#[derive(Clone, Copy, Debug, PartialEq, Eq)]
 pub enum Event {
     Open(Side, u32),
     Listen(Side),
@@ -52,70 +53,51 @@ pub enum Event {
 
 // An event that was taken: what the station sent, whether it drew the number offered, and whether
 // what it sent was turned away.
-#[derive(Clone, Copy)]
+#[derive(Clone, Copy, Debug, Default, PartialEq, Eq)]
 pub struct Told {
-    pub sent: Sent,
+    pub sent: Option<Segment>,
     pub drawn: bool,
     pub turned: bool,
 }
 
+// An event that was taken: the next model, and what is told of it.
 #[derive(Clone, Copy)]
-pub enum Answer {
-    Refused(Refusal),
-    Taken(Told),
-}
-
-// The model after an event, and its answer: after a refusal the model that came in.
-#[derive(Clone, Copy)]
-pub struct Stepped {
-    pub model: Model,
-    pub answer: Answer,
+struct Next {
+    model: Model,
+    told: Told,
 }
 
 // How many events were taken and refused, and how many segments were turned away.
-#[derive(Clone, Copy)]
+#[derive(Clone, Copy, Debug, Default, PartialEq, Eq)]
 pub struct Totals {
     pub taken: usize,
     pub refused: usize,
     pub turned: usize,
 }
 
-#[derive(Clone, Copy)]
-pub enum Report {
-    Refused(Refusal),
-    Played(Totals),
-}
-
-// The model after a list, and the player's report: after a refusal the model that came in.
-#[derive(Clone, Copy)]
-pub struct Played {
-    pub model: Model,
-    pub report: Report,
-}
-
 impl Model {
-    // One event. Refusals 1, then those of the event.
-    pub fn step(self, e: Event) -> Stepped
-        ensures { Steps self e result }
+    // One event. Refusals 1, then those of the event, and then the model stays as it is.
+    #[tactic(auto, unfolding(crate::specs::Step::step_said))]
+    pub fn step(&mut self, e: Event) -> Result<Told, Refusal>
+        ensures { Steps self.old e self.new result }
     {
-        if !stepping::sound(self) {
-            return stepping::refused(self, Refusal::Form);
-        }
-        stepping::applied(self, e)
+        let next = Sound::of(*self)?.applied(e)?;
+        *self = next.model;
+        Ok(next.told)
     }
-}
 
-// The first n of a list of events, one after another. Refusals 1, 12, and then nothing is played.
-pub fn play(m: Model, events: [Event; 4096], n: usize) -> Played
-    ensures { Plays m n (take n events) result }
-{
-    if !stepping::sound(m) {
-        return playing::refused(m, Refusal::Form);
+    // The first n of a list of events, one after another. Refusals 1, 12, and then nothing is played.
+    // An array with a count, since memory is fixed: a longer list is refused by its count alone.
+    #[tactic(auto, unfolding(crate::specs::Play::play_said))]
+    pub fn play(&mut self, events: &[Event; 4096], n: usize) -> Result<Totals, Refusal>
+        ensures { Plays self.old n (take n events.now) self.new result }
+    {
+        Sound::of(*self)?;
+        if 4096 < n {
+            return Err(Refusal::Events);
+        }
+        Ok(self.run(events, n))
     }
-    if 4096 < n {
-        return playing::refused(m, Refusal::Events);
-    }
-    playing::run(m, events, n)
 }
 
 // ---- theorems, each promised by a function that does nothing

@@ -1,200 +1,214 @@
 // One event of the model (01, "Two stations and their links").
-ghost use Rattle.std.specs.Prelude.{◌≡◌, true};
-ghost use Rattle.segment.specs.Refusals.{number, refused, given};
+ghost use Rattle.std.specs.Prelude.{◌≡◌, true, not, [], ◌∷◌};
+ghost use Rattle.segment.specs.Refusals.{said_as, first_of, refuse◌when◌};
 ghost use Rattle.station.specs.Outcomes.{segments};
 ghost use Rattle.station.specs.Events.{event_said};
-ghost use Rattle.model.specs.Step.{peer_of, station_of, toward, with_station, with_toward, mirrored, sound, Tells, relinked, posted, moved, delivered, copied, lost, applied};
+ghost use Rattle.model.specs.Step.{moved_of, peer_of, station_of, toward, with_station, with_toward, mirrored, sound, relinked, posted, moved, delivered, copied, lost, applied};
 
-use crate::{Answer, Event, Link, Model, Side, Stepped, Told, links};
-use segment::Refusal;
-use station::{Outcome, Sent, Station};
+use crate::{Event, Link, Model, Next, Side, Told};
+use segment::{Refusal, Segment};
+use station::Station;
 
-fn peer_of(x: Side) -> Side
-    ensures { result ≡ peer_of x }
-{
-    match x {
-        Side::A => Side::B,
-        Side::B => Side::A,
-    }
-}
-
-fn station_of(x: Side, m: Model) -> Station
-    ensures { result ≡ station_of x m }
-{
-    match x {
-        Side::A => m.a,
-        Side::B => m.b,
-    }
-}
-
-fn toward(x: Side, m: Model) -> Link
-    ensures { result ≡ toward x m }
-{
-    match x {
-        Side::A => m.toa,
-        Side::B => m.tob,
-    }
-}
-
-fn with_station(x: Side, m: Model, s: Station) -> Model
-    ensures { result ≡ with_station x m s }
-{
-    let a = m.a;
-    let b = m.b;
-    let toa = m.toa;
-    let tob = m.tob;
-    match x {
-        Side::A => Model { a: s, b, toa, tob },
-        Side::B => Model { a, b: s, toa, tob },
-    }
-}
-
-fn with_toward(x: Side, m: Model, l: Link) -> Model
-    ensures { result ≡ with_toward x m l }
-{
-    let a = m.a;
-    let b = m.b;
-    let toa = m.toa;
-    let tob = m.tob;
-    match x {
-        Side::A => Model { a, b, toa: l, tob },
-        Side::B => Model { a, b, toa, tob: l },
-    }
-}
-
-fn mirrored(m: Model) -> bool
-    ensures { result ≡ mirrored m }
-{
-    (m.a.own == m.b.peer)
-        & (m.a.ownport == m.b.peerport)
-        & (m.a.peer == m.b.own)
-        & (m.a.peerport == m.b.ownport)
-}
-
-pub(crate) fn sound(m: Model) -> bool
-    ensures { result ≡ sound m }
-{
-    let a = m.a;
-    let b = m.b;
-    station::forms::formed(a)
-        & station::forms::formed(b)
-        & (m.toa.count <= 32)
-        & (m.tob.count <= 32)
-        & mirrored(m)
-}
-
-pub(crate) fn refused(m: Model, why: Refusal) -> Stepped
-    ensures { Tells m (refused (number why)) result }
-{
-    Stepped {
-        model: m,
-        answer: Answer::Refused(why),
-    }
-}
-
-fn taken(m: Model, sent: Sent, drawn: bool, turned: bool) -> Stepped
-    ensures { Tells m (given (record { model = m; sent = segments sent; drawn = drawn; turned = turned })) result }
-{
-    let told = Told {
-        sent,
-        drawn,
-        turned,
-    };
-    Stepped {
-        model: m,
-        answer: Answer::Taken(told),
-    }
-}
-
-fn relinked(x: Side, m: Model, l: Link) -> Stepped
-    ensures { Tells m (given (relinked x m l)) result }
-{
-    taken(with_toward(x, m, l), Sent::Nothing, false, false)
-}
-
-// What station x sends goes onto the link towards its peer.
-fn posted(x: Side, m: Model, sent: Sent, drawn: bool) -> Stepped
-    ensures { Tells m (given (posted x m (segments sent) drawn)) result }
-{
-    match sent {
-        Sent::Nothing => taken(m, Sent::Nothing, drawn, false),
-        Sent::One(g) => {
-            let peer = peer_of(x);
-            let l = toward(peer, m);
-            if links::full(l) {
-                return taken(m, Sent::One(g), drawn, true);
-            }
-            let next = with_toward(peer, m, links::pushed(l, g));
-            taken(next, Sent::One(g), drawn, false)
+impl Side {
+    fn peer(self) -> Side
+        ensures { result ≡ peer_of self }
+    {
+        match self {
+            Side::A => Side::B,
+            Side::B => Side::A,
         }
     }
 }
 
-// One event of station x: after a refusal m stays, otherwise the step goes on from rest.
-fn moved(x: Side, m: Model, rest: Model, e: station::Event) -> Stepped
-    ensures { Tells m (moved x rest (event_said (station_of x m) e)) result }
-{
-    let outcome = station_of(x, m).step(e);
-    match outcome {
-        Outcome::Refused(why) => refused(m, why),
-        Outcome::Taken(done) => {
-            let next = done.next;
-            let sent = done.sent;
-            posted(x, with_station(x, rest, next), sent, done.drawn)
+impl Model {
+    #[tactic(auto, unfolding(crate::specs::Step::station_of))]
+    fn station(&self, x: Side) -> Station
+        ensures { result ≡ station_of x self.now }
+    {
+        match x {
+            Side::A => self.a,
+            Side::B => self.b,
         }
     }
+
+    #[tactic(auto, unfolding(crate::specs::Step::toward))]
+    fn toward(&self, x: Side) -> Link
+        ensures { result ≡ toward x self.now }
+    {
+        match x {
+            Side::A => self.toa,
+            Side::B => self.tob,
+        }
+    }
+
+    #[tactic(auto, unfolding(crate::specs::Step::with_station))]
+    fn with_station(self, x: Side, s: Station) -> Model
+        ensures { result ≡ with_station x self s }
+    {
+        match x {
+            Side::A => Model { a: s, ..self },
+            Side::B => Model { b: s, ..self },
+        }
+    }
+
+    #[tactic(auto, unfolding(crate::specs::Step::with_toward))]
+    fn with_toward(self, x: Side, l: Link) -> Model
+        ensures { result ≡ with_toward x self l }
+    {
+        match x {
+            Side::A => Model { toa: l, ..self },
+            Side::B => Model { tob: l, ..self },
+        }
+    }
+
+    #[tactic(auto, unfolding(crate::specs::Step::mirrored))]
+    fn mirrored(&self) -> bool
+        ensures { result ≡ mirrored self.now }
+    {
+        (self.a.own == self.b.peer)
+            & (self.a.ownport == self.b.peerport)
+            & (self.a.peer == self.b.own)
+            & (self.a.peerport == self.b.ownport)
+    }
+
+    #[tactic(auto, unfolding(crate::specs::Step::sound))]
+    fn is_sound(&self) -> bool
+        ensures { result ≡ sound self.now }
+    {
+        self.a.is_formed()
+            & self.b.is_formed()
+            & (self.toa.count <= 32)
+            & (self.tob.count <= 32)
+            & self.mirrored()
+    }
+
+    fn relinked(self, x: Side, l: Link) -> Next
+        ensures { moved_of result ≡ relinked x self l }
+    {
+        Next {
+            model: self.with_toward(x, l),
+            told: Told::default(),
+        }
+    }
+
+    // What station x sends goes onto the link towards its peer.
+    #[tactic(auto, unfolding(crate::specs::Step::posted, crate::specs::Links::full))]
+    fn posted(self, x: Side, sent: Option<Segment>, drawn: bool) -> Next
+        ensures { moved_of result ≡ posted x self (segments sent) drawn }
+    {
+        let told = Told {
+            sent,
+            drawn,
+            turned: false,
+        };
+        let Some(g) = sent else {
+            return Next { model: self, told };
+        };
+        let l = self.toward(x.peer());
+        if l.is_full() {
+            return Next {
+                model: self,
+                told: Told {
+                    turned: true,
+                    ..told
+                },
+            };
+        }
+        Next {
+            model: self.with_toward(x.peer(), l.pushed(g)),
+            told,
+        }
+    }
+
+    // One event of station x: the step goes on from rest.
+    #[tactic(auto, unfolding(crate::specs::Step::moved))]
+    fn moved(&self, x: Side, rest: Model, e: station::Event) -> Result<Next, Refusal>
+        ensures { said_as moved_of result ≡ moved x rest (event_said (station_of x self.now) e) }
+    {
+        let done = self.station(x).step(e)?;
+        Ok(
+            rest.with_station(x, done.next)
+                .posted(x, done.sent, done.drawn),
+        )
+    }
 }
 
-fn delivered(x: Side, m: Model, n: usize, fresh: u32) -> Stepped
-    requires { sound m ≡ true }
-    ensures { Tells m (delivered x m n fresh) result }
-{
-    let l = toward(x, m);
-    if !links::has_place(l, n) {
-        return refused(m, Refusal::Place);
-    }
-    let g = links::at_place(l, n);
-    let rest = with_toward(x, m, links::removed(l, n));
-    moved(x, m, rest, station::Event::Arrive(g, fresh))
+// A model that 1 does not refuse.
+#[derive(Clone, Copy)]
+pub(crate) struct Sound {
+    model: Model,
+    ghost is_sound: { sound model ≡ true },
 }
 
-fn copied(x: Side, m: Model, n: usize) -> Stepped
-    requires { sound m ≡ true }
-    ensures { Tells m (copied x m n) result }
-{
-    let l = toward(x, m);
-    if !links::has_place(l, n) {
-        return refused(m, Refusal::Place);
+impl Sound {
+    // Refusal 1.
+    pub(crate) fn of(model: Model) -> Result<Sound, Refusal>
+        ensures { said_as (λ (s : Sound). s.model) result ≡ first_of (refuse 1 when not (sound model) ∷ []) model }
+    {
+        if !model.is_sound() {
+            return Err(Refusal::Form);
+        }
+        Ok(Sound { model })
     }
-    if links::full(l) {
-        return refused(m, Refusal::CopyFull);
-    }
-    relinked(x, m, links::pushed(l, links::at_place(l, n)))
-}
 
-fn lost(x: Side, m: Model, n: usize) -> Stepped
-    requires { sound m ≡ true }
-    ensures { Tells m (lost x m n) result }
-{
-    let l = toward(x, m);
-    if !links::has_place(l, n) {
-        return refused(m, Refusal::Place);
+    #[tactic(auto, using(crate::proofs::Laws::within), unfolding(crate::specs::Step::delivered, crate::specs::Links::has_place, crate::specs::Links::full))]
+    fn delivered(&self, x: Side, n: usize, fresh: u32) -> Result<Next, Refusal>
+        ensures { said_as moved_of result ≡ delivered x self.now.model n fresh }
+    {
+        let l = self.model.toward(x);
+        if !l.has_place(n) {
+            return Err(Refusal::Place);
+        }
+        let g = l.at_place(n);
+        let rest = self.model.with_toward(x, l.removed(n));
+        self.model.moved(x, rest, station::Event::Arrive(g, fresh))
     }
-    relinked(x, m, links::removed(l, n))
-}
 
-pub(crate) fn applied(m: Model, e: Event) -> Stepped
-    requires { sound m ≡ true }
-    ensures { Tells m (applied m e) result }
-{
-    match e {
-        Event::Open(x, n) => moved(x, m, m, station::Event::Open(n)),
-        Event::Listen(x) => moved(x, m, m, station::Event::Listen),
-        Event::Abort(x) => moved(x, m, m, station::Event::Abort),
-        Event::Resend(x) => moved(x, m, m, station::Event::Resend),
-        Event::PowerCut(x) => moved(x, m, m, station::Event::PowerCut),
-        Event::Deliver(x, n, fresh) => delivered(x, m, n, fresh),
-        Event::Copy(x, n) => copied(x, m, n),
-        Event::Lose(x, n) => lost(x, m, n),
+    #[tactic(auto, using(crate::proofs::Laws::within), unfolding(crate::specs::Step::copied, crate::specs::Links::has_place, crate::specs::Links::full))]
+    fn copied(&self, x: Side, n: usize) -> Result<Next, Refusal>
+        ensures { said_as moved_of result ≡ copied x self.now.model n }
+    {
+        let l = self.model.toward(x);
+        if !l.has_place(n) {
+            return Err(Refusal::Place);
+        }
+        if l.is_full() {
+            return Err(Refusal::CopyFull);
+        }
+        Ok(self.model.relinked(x, l.pushed(l.at_place(n))))
+    }
+
+    #[tactic(auto, using(crate::proofs::Laws::within), unfolding(crate::specs::Step::lost, crate::specs::Links::has_place, crate::specs::Links::full))]
+    fn lost(&self, x: Side, n: usize) -> Result<Next, Refusal>
+        ensures { said_as moved_of result ≡ lost x self.now.model n }
+    {
+        let l = self.model.toward(x);
+        if !l.has_place(n) {
+            return Err(Refusal::Place);
+        }
+        Ok(self.model.relinked(x, l.removed(n)))
+    }
+
+    // One event of station x.
+    fn called(&self, x: Side, e: station::Event) -> Result<Next, Refusal>
+        ensures { said_as moved_of result ≡ moved x self.now.model (event_said (station_of x self.now.model) e) }
+    {
+        self.model.moved(x, self.model, e)
+    }
+
+    #[tactic(auto, unfolding(crate::specs::Step::applied))]
+    pub(crate) fn applied(&self, e: Event) -> Result<Next, Refusal>
+        ensures { said_as moved_of result ≡ applied self.now.model e }
+    {
+        match e {
+            Event::Open(x, n) => self.called(x, station::Event::Open(n)),
+            Event::Listen(x) => self.called(x, station::Event::Listen),
+            Event::Abort(x) => self.called(x, station::Event::Abort),
+            Event::Resend(x) => self.called(x, station::Event::Resend),
+            Event::PowerCut(x) => self.called(x, station::Event::PowerCut),
+            Event::Deliver(x, n, fresh) => self.delivered(x, n, fresh),
+            Event::Copy(x, n) => self.copied(x, n),
+            Event::Lose(x, n) => self.lost(x, n),
+        }
     }
 }
