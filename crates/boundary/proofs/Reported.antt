@@ -5,16 +5,15 @@ use mathlib.Core.Bool.{Bool, true, false}
 use mathlib.Core.List.{List}
 use lib.ListN.{take}
 use lib.Dec.{ltb}
-use Rattle.segment.specs.Refusals.{Said, refused, given}
+use Rattle.std.specs.Prelude.{Result, Ok, Err}
+use Rattle.segment.specs.declared.Refusal.{Refusal}
+use Rattle.segment.specs.Refusals.{Said, refused, given, said}
 use Rattle.model.specs.declared.Model.{Model}
 use Rattle.model.specs.declared.Event.{Event}
 use Rattle.model.specs.declared.Totals.{Totals}
-use Rattle.model.specs.declared.Report.{Report}
-use Rattle.model.specs.declared.Played.{Played}
-use Rattle.model.specs.declared.Answer.{Answer}
-use Rattle.model.specs.declared.Stepped.{Stepped}
+use Rattle.model.specs.declared.Told.{Told}
 use Rattle.model.specs.Step.{Moved, Reply, said_answer, reply_of, model_after, Tells}
-use Rattle.model.specs.Play.{Run, play_said, model_played, said_report, totals_of, Reports, Plays}
+use Rattle.model.specs.Play.{Run, play_said, model_played, totals_of, Reports, Plays}
 use Rattle.events.specs.Lists.{count_of, events_at, list_at}
 use Rattle.events.proofs.Listed.{listed_whole}
 use Rattle.telling.specs.Told.{report_of, answer_of}
@@ -25,16 +24,16 @@ abbrev beside : Model → Said Totals → Said Run
 beside m (refused n) = refused n
 beside m (given t) = given (record { model = m; totals = t })
 
-by_number : (m : Model) (r : Report) → report_of m r ≡ beside m (said_report r)
-by_number m (Report.Refused r) = refl
-by_number m (Report.Played t) = refl
+by_number : (m : Model) (r : Result Totals Refusal) → report_of m r ≡ beside m (said r)
+by_number m (Err r) = refl
+by_number m (Ok t) = refl
 
 joined : (m : Model) (x : Said Run) → beside (model_played m x) (totals_of x) ≡ x
 joined m (refused n) = refl
 joined m (given run) = refl
 
-pub reported : (m : Model) (x : Said Run) (p : Played) → Reports m x p → report_of p.model p.report ≡ x
-reported m x p h = by_number p.model p.report ∙ rw (h.report, h.model) (joined m x)
+pub reported : (m : Model) (x : Said Run) (after : Model) (r : Result Totals Refusal) → Reports m x after r → report_of after r ≡ x
+reported m x after r h = by_number after r ∙ rw (h.report, h.model) (joined m x)
 
 -- ---- an answer and the model beside it are the event that is promised
 
@@ -42,16 +41,16 @@ abbrev with_reply : Model → Said Reply → Said Moved
 with_reply m (refused n) = refused n
 with_reply m (given x) = given (record { model = m; sent = x.sent; drawn = x.drawn; turned = x.turned })
 
-by_reply : (m : Model) (a : Answer) → answer_of m a ≡ with_reply m (said_answer a)
-by_reply m (Answer.Refused r) = refl
-by_reply m (Answer.Taken t) = refl
+by_reply : (m : Model) (a : Result Told Refusal) → answer_of m a ≡ with_reply m (said_answer a)
+by_reply m (Err r) = refl
+by_reply m (Ok t) = refl
 
 whole_again : (m : Model) (x : Said Moved) → with_reply (model_after m x) (reply_of x) ≡ x
 whole_again m (refused n) = refl
 whole_again m (given moved) = refl
 
-pub answered : (m : Model) (x : Said Moved) (s : Stepped) → Tells m x s → answer_of s.model s.answer ≡ x
-answered m x s h = by_reply s.model s.answer ∙ rw (h.answer, h.model) (whole_again m x)
+pub answered : (m : Model) (x : Said Moved) (after : Model) (r : Result Told Refusal) → Tells m x after r → answer_of after r ≡ x
+answered m x after r h = by_reply after r ∙ rw (h.answer, h.model) (whole_again m x)
 
 -- ---- the player's array
 
@@ -62,7 +61,7 @@ module _ (m : Model) (s : List ℕ) where
   played_by false t = ap (play_said m (count_of s)) (listed_whole s t)
 
   -- a list past the limit is refused whatever the events, and one within it is there whole
-  pub played_whole : (n : ℕ) (es : List Event) (p : Played) → es ≡ list_at s → n ≡ count_of s → Plays m n (take n es) p
-      → report_of p.model p.report ≡ play_said m (count_of s) (events_at (count_of s) s)
-  played_whole n es p e k h =
-      reported m (play_said m (count_of s) (take (count_of s) (list_at s))) p (rw (e, k) at h) ∙ played_by (ltb 4096 (count_of s)) refl
+  pub played_whole : (n : ℕ) (es : List Event) (after : Model) (r : Result Totals Refusal) → es ≡ list_at s → n ≡ count_of s → Plays m n (take n es) after r
+      → report_of after r ≡ play_said m (count_of s) (events_at (count_of s) s)
+  played_whole n es after r e k h =
+      reported m (play_said m (count_of s) (take (count_of s) (list_at s))) after r (rw (e, k) at h) ∙ played_by (ltb 4096 (count_of s)) refl

@@ -16,6 +16,7 @@ ghost use Rattle.boundary.specs.Player.{step_told, play_told};
 ghost use Rattle.boundary.specs.Theorems.{OneOutcome};
 
 use numbers::{Header, Model, Record, Segment};
+use station::Station;
 use telling::{Played, Reading, Stepped, Told};
 
 // ---- a station's calls
@@ -24,10 +25,7 @@ use telling::{Played, Reading, Stepped, Told};
 fn event(r: Record, e: station::Event) -> Told
     ensures { result ≡ event_told r e }
 {
-    if !numbers::known(r) {
-        return telling::refused(r, 1);
-    }
-    telling::told_of(r, numbers::station_of(r).step(e))
+    telling::told_of(r, Station::try_from(r).and_then(|s| s.step(e)))
 }
 
 #[unsafe(no_mangle)]
@@ -72,7 +70,7 @@ pub extern "C" fn tabor_power_cut(r: Record) -> Told
 pub extern "C" fn tabor_arrive(r: Record, g: Segment, fresh: u32) -> Told
     ensures { result ≡ event_told r (Event.Arrive (segment_of g) fresh) }
 {
-    event(r, station::Event::Arrive(numbers::segment_of(g), fresh))
+    event(r, station::Event::Arrive(segment::Segment::from(g), fresh))
 }
 
 // Octets arrive; what is sent is written as octets, too. An output below 20 octets is 10, after 1 to 6
@@ -88,10 +86,7 @@ pub extern "C" fn tabor_arrive_octets(
 ) -> Told
     ensures { Arrives r src dst octets.now fresh out.old out.new result }
 {
-    if !numbers::known(r) {
-        return telling::refused(r, 1);
-    }
-    let outcome = numbers::station_of(r).arrive_octets(src, dst, octets, fresh);
+    let outcome = Station::try_from(r).and_then(|s| s.arrive_octets(src, dst, octets, fresh));
     answering::answered(r, outcome, out)
 }
 
@@ -101,8 +96,7 @@ pub extern "C" fn tabor_arrive_octets(
 pub extern "C" fn tabor_read(src: u32, dst: u32, octets: &[u8]) -> Reading
     ensures { result ≡ read_told src dst octets.now }
 {
-    let reading = segment::read(src, dst, octets);
-    telling::reading_of(reading)
+    telling::reading_of(segment::read(src, dst, octets))
 }
 
 // 0 where the header is written, otherwise 01's number.
@@ -110,8 +104,7 @@ pub extern "C" fn tabor_read(src: u32, dst: u32, octets: &[u8]) -> Reading
 pub extern "C" fn tabor_write(src: u32, dst: u32, h: Header, out: &mut [u8]) -> u8
     ensures { Written src dst h out.old out.new result }
 {
-    let writing = segment::write(src, dst, numbers::header_of(h), out);
-    telling::number_of(writing)
+    telling::number_of(segment::write(src, dst, segment::Header::from(h), out))
 }
 
 // The checksum of octets in which it is zero, or of those without it.
@@ -132,10 +125,13 @@ pub extern "C" fn tabor_step(m: Model, octets: &[u8]) -> Stepped
     if !events::is_event(octets) {
         return telling::not_stepped(m, 255);
     }
-    if !numbers::both_known(m) {
-        return telling::not_stepped(m, 1);
+    match model::Model::try_from(m) {
+        Err(why) => telling::not_stepped(m, why.number()),
+        Ok(mut after) => {
+            let answer = after.step(events::event_at(octets));
+            telling::stepped_of(m, after, answer)
+        }
     }
-    telling::stepped_of(m, numbers::model_of(m).step(events::event_at(octets)))
 }
 
 // The events in octets, played. Octets that are no list of events are 255.
@@ -146,12 +142,13 @@ pub extern "C" fn tabor_play(m: Model, octets: &[u8]) -> Played
     if !events::is_list(octets) {
         return telling::not_played(m, 255);
     }
-    if !numbers::both_known(m) {
-        return telling::not_played(m, 1);
+    match model::Model::try_from(m) {
+        Err(why) => telling::not_played(m, why.number()),
+        Ok(mut after) => {
+            let report = after.play(&events::list(octets), events::count(octets));
+            telling::played_of(m, after, report)
+        }
     }
-    let list = events::list(octets);
-    let n = events::count(octets);
-    telling::played_of(m, model::play(numbers::model_of(m), list, n))
 }
 
 // The whole program: how many octets of the output are written.

@@ -1,20 +1,19 @@
 // Structs of numbers, which cross to C by value, and the library's own records, headers, segments and models: each from the other.
 #![tactic(auto)]
 
-mod links;
-
-ghost use Rattle.std.specs.Prelude.{◌≡◌};
-ghost use Rattle.station.specs.Forms.{place};
-ghost use Rattle.numbers.specs.Numbers.{bit_of, state_of, known, station_of, record_of, header_of, header_numbers, segment_of, segment_numbers};
-ghost use Rattle.numbers.specs.Links.{both_known, model_of, model_numbers};
+ghost use Rattle.std.specs.Prelude.{◌≡◌, not, [], ◌∷◌};
+ghost use Rattle.segment.specs.Refusals.{said, first_of, refuse◌when◌};
+ghost use Rattle.numbers.specs.Numbers.{state_of, known, station_of, record_of, header_of, header_numbers, segment_of, segment_numbers};
+ghost use Rattle.numbers.specs.Links.{link_of, link_numbers, both_known, model_of, model_numbers};
 ghost use Rattle.numbers.specs.Theorems.{CrossesBack, Examples};
 
+use segment::Refusal;
 use station::{State, Station};
 
 // A station's record in numbers. State: 0 CLOSED, 1 LISTEN, 2 SYN-SENT, 3 SYN-RECEIVED,
 // 4 ESTABLISHED. The mark "opened passively": 0 no, 1 yes.
 #[repr(C)]
-#[derive(Clone, Copy)]
+#[derive(Clone, Copy, Debug, Default, PartialEq, Eq)]
 pub struct Record {
     pub iss: u32,
     pub una: u32,
@@ -32,7 +31,7 @@ pub struct Record {
 
 // A header's fields in numbers, the control bits as their octet.
 #[repr(C)]
-#[derive(Clone, Copy)]
+#[derive(Clone, Copy, Debug, Default, PartialEq, Eq)]
 pub struct Header {
     pub seq: u32,
     pub ack: u32,
@@ -45,7 +44,7 @@ pub struct Header {
 
 // A segment: a header's fields, two addresses and a length of text.
 #[repr(C)]
-#[derive(Clone, Copy)]
+#[derive(Clone, Copy, Debug, Default, PartialEq, Eq)]
 pub struct Segment {
     pub header: Header,
     pub src: u32,
@@ -55,7 +54,7 @@ pub struct Segment {
 
 // A link: the first count slots hold segments, in the order sent.
 #[repr(C)]
-#[derive(Clone, Copy)]
+#[derive(Clone, Copy, Debug, PartialEq, Eq)]
 pub struct Link {
     pub slots: [Segment; 32],
     pub count: usize,
@@ -63,7 +62,7 @@ pub struct Link {
 
 // Two stations, the link towards A and the link towards B.
 #[repr(C)]
-#[derive(Clone, Copy)]
+#[derive(Clone, Copy, Debug, PartialEq, Eq)]
 pub struct Model {
     pub a: Record,
     pub b: Record,
@@ -74,30 +73,28 @@ pub struct Model {
 // ---- a record
 
 // The state and the mark are numbers that name one.
+#[tactic(auto, unfolding(crate::specs::Numbers::known))]
 pub fn known(r: Record) -> bool
     ensures { result ≡ known r }
 {
     (r.state < 5) & (r.passive < 2)
 }
 
+#[tactic(auto, unfolding(crate::specs::Numbers::state_of))]
 fn state_of(n: u8) -> State
     ensures { result ≡ state_of n }
 {
-    if n == 0 {
-        return State::Closed;
+    match n {
+        0 => State::Closed,
+        1 => State::Listen,
+        2 => State::SynSent,
+        3 => State::SynReceived,
+        _ => State::Established,
     }
-    if n == 1 {
-        return State::Listen;
-    }
-    if n == 2 {
-        return State::SynSent;
-    }
-    if n == 3 {
-        return State::SynReceived;
-    }
-    State::Established
 }
 
+// The station of a record, whatever its numbers.
+#[tactic(auto, unfolding(crate::specs::Numbers::station_of))]
 pub fn station_of(r: Record) -> Station
     ensures { result ≡ station_of r }
 {
@@ -117,136 +114,178 @@ pub fn station_of(r: Record) -> Station
     }
 }
 
-fn state_number(s: State) -> u8
-    ensures { result ≡ place s }
-{
-    match s {
-        State::Closed => 0,
-        State::Listen => 1,
-        State::SynSent => 2,
-        State::SynReceived => 3,
-        State::Established => 4,
+// Numbers that name no state or no mark are refused with 1.
+impl TryFrom<Record> for Station {
+    type Error = Refusal;
+
+    ghost try_from_gives = { λ r o. said o ≡ first_of (refuse 1 when not (known r) ∷ []) (station_of r) };
+
+    fn try_from(r: Record) -> Result<Station, Refusal> {
+        if !known(r) {
+            return Err(Refusal::Form);
+        }
+        Ok(station_of(r))
     }
 }
 
-pub fn bit_of(b: bool) -> u8
-    ensures { result ≡ bit_of b }
-{
-    if b { 1 } else { 0 }
-}
+impl From<Station> for Record {
+    ghost from_gives = { λ s r. r ≡ record_of s };
 
-pub fn record_of(s: Station) -> Record
-    ensures { result ≡ record_of s }
-{
-    let state = s.state;
-    Record {
-        iss: s.iss,
-        una: s.una,
-        nxt: s.nxt,
-        irs: s.irs,
-        rcvnxt: s.rcvnxt,
-        own: s.own,
-        peer: s.peer,
-        rcvwnd: s.rcvwnd,
-        ownport: s.ownport,
-        peerport: s.peerport,
-        state: state_number(state),
-        passive: bit_of(s.passive),
+    #[tactic(auto, unfolding(crate::specs::Numbers::record_of))]
+    fn from(s: Station) -> Record {
+        Record {
+            iss: s.iss,
+            una: s.una,
+            nxt: s.nxt,
+            irs: s.irs,
+            rcvnxt: s.rcvnxt,
+            own: s.own,
+            peer: s.peer,
+            rcvwnd: s.rcvwnd,
+            ownport: s.ownport,
+            peerport: s.peerport,
+            state: s.state as u8,
+            passive: u8::from(s.passive),
+        }
     }
 }
 
 // ---- a header and a segment
 
-pub fn header_of(h: Header) -> segment::Header
-    ensures { result ≡ header_of h }
-{
-    let control = segment::control_at(h.control as u32);
-    segment::Header {
-        source: h.source,
-        destination: h.destination,
-        seq: h.seq,
-        ack: h.ack,
-        control,
-        window: h.window,
-        urgent: h.urgent,
+impl From<Header> for segment::Header {
+    ghost from_gives = { λ h g. g ≡ header_of h };
+
+    #[tactic(auto, unfolding(crate::specs::Numbers::header_of))]
+    fn from(h: Header) -> segment::Header {
+        segment::Header {
+            source: h.source,
+            destination: h.destination,
+            seq: h.seq,
+            ack: h.ack,
+            control: segment::control_at(u32::from(h.control)),
+            window: h.window,
+            urgent: h.urgent,
+        }
     }
 }
 
-pub fn header_numbers(h: segment::Header) -> Header
-    ensures { result ≡ header_numbers h }
-{
-    let control = h.control;
-    Header {
-        seq: h.seq,
-        ack: h.ack,
-        source: h.source,
-        destination: h.destination,
-        window: h.window,
-        urgent: h.urgent,
-        control: segment::control_octet(control),
+impl From<segment::Header> for Header {
+    ghost from_gives = { λ h g. g ≡ header_numbers h };
+
+    #[tactic(auto, unfolding(crate::specs::Numbers::header_numbers))]
+    fn from(h: segment::Header) -> Header {
+        Header {
+            seq: h.seq,
+            ack: h.ack,
+            source: h.source,
+            destination: h.destination,
+            window: h.window,
+            urgent: h.urgent,
+            control: segment::control_octet(h.control),
+        }
     }
 }
 
-pub fn segment_of(g: Segment) -> segment::Segment
-    ensures { result ≡ segment_of g }
-{
-    let h = g.header;
-    segment::Segment {
-        header: header_of(h),
-        src: g.src,
-        dst: g.dst,
-        text: g.text,
+impl From<Segment> for segment::Segment {
+    ghost from_gives = { λ g h. h ≡ segment_of g };
+
+    #[tactic(auto, unfolding(crate::specs::Numbers::segment_of))]
+    fn from(g: Segment) -> segment::Segment {
+        segment::Segment {
+            header: segment::Header::from(g.header),
+            src: g.src,
+            dst: g.dst,
+            text: g.text,
+        }
     }
 }
 
-pub fn segment_numbers(g: segment::Segment) -> Segment
-    ensures { result ≡ segment_numbers g }
-{
-    let h = g.header;
-    Segment {
-        header: header_numbers(h),
-        src: g.src,
-        dst: g.dst,
-        text: g.text,
+impl From<segment::Segment> for Segment {
+    ghost from_gives = { λ g h. h ≡ segment_numbers g };
+
+    #[tactic(auto, unfolding(crate::specs::Numbers::segment_numbers))]
+    fn from(g: segment::Segment) -> Segment {
+        Segment {
+            header: Header::from(g.header),
+            src: g.src,
+            dst: g.dst,
+            text: g.text,
+        }
     }
 }
 
 // ---- two stations and their links
 
+impl From<Link> for model::Link {
+    ghost from_gives = { λ l k. k ≡ link_of l };
+
+    #[tactic(auto, unfolding(crate::specs::Links::link_of))]
+    fn from(l: Link) -> model::Link {
+        model::Link {
+            slots: l.slots.map(segment::Segment::from),
+            count: l.count,
+        }
+    }
+}
+
+impl From<model::Link> for Link {
+    ghost from_gives = { λ l k. k ≡ link_numbers l };
+
+    #[tactic(auto, unfolding(crate::specs::Links::link_numbers))]
+    fn from(l: model::Link) -> Link {
+        Link {
+            slots: l.slots.map(Segment::from),
+            count: l.count,
+        }
+    }
+}
+
 // Both records' states and marks are numbers that name one.
+#[tactic(auto, unfolding(crate::specs::Links::both_known))]
 pub fn both_known(m: Model) -> bool
     ensures { result ≡ both_known m }
 {
     known(m.a) & known(m.b)
 }
 
+// The model of numbers, whatever they are.
+#[tactic(auto, unfolding(crate::specs::Links::model_of))]
 pub fn model_of(m: Model) -> model::Model
     ensures { result ≡ model_of m }
 {
-    let a = m.a;
-    let b = m.b;
-    let toa = m.toa;
-    let tob = m.tob;
     model::Model {
-        a: station_of(a),
-        b: station_of(b),
-        toa: links::link_of(toa),
-        tob: links::link_of(tob),
+        a: station_of(m.a),
+        b: station_of(m.b),
+        toa: model::Link::from(m.toa),
+        tob: model::Link::from(m.tob),
     }
 }
 
-pub fn model_numbers(m: model::Model) -> Model
-    ensures { result ≡ model_numbers m }
-{
-    let a = m.a;
-    let b = m.b;
-    let toa = m.toa;
-    let tob = m.tob;
-    Model {
-        a: record_of(a),
-        b: record_of(b),
-        toa: links::link_numbers(toa),
-        tob: links::link_numbers(tob),
+// Numbers that name no state or no mark are refused with 1.
+impl TryFrom<Model> for model::Model {
+    type Error = Refusal;
+
+    ghost try_from_gives = { λ m o. said o ≡ first_of (refuse 1 when not (both_known m) ∷ []) (model_of m) };
+
+    fn try_from(m: Model) -> Result<model::Model, Refusal> {
+        if !both_known(m) {
+            return Err(Refusal::Form);
+        }
+        Ok(model_of(m))
+    }
+}
+
+impl From<model::Model> for Model {
+    ghost from_gives = { λ m k. k ≡ model_numbers m };
+
+    #[tactic(auto, unfolding(crate::specs::Links::model_numbers))]
+    fn from(m: model::Model) -> Model {
+        Model {
+            a: Record::from(m.a),
+            b: Record::from(m.b),
+            toa: Link::from(m.toa),
+            tob: Link::from(m.tob),
+        }
     }
 }
 

@@ -1,12 +1,13 @@
 -- What is told in numbers (docs/DECISIONS.md, "The boundary in numbers").
-use Rattle.std.specs.Prelude.{ℕ, List, [], ◌∷◌, length}
+use Rattle.std.specs.Prelude.{ℕ, List, [], ◌∷◌, length, Result}
 use Rattle.segment.specs.declared.Header.{Header as SegmentHeader}
 use Rattle.segment.specs.declared.Segment.{Segment as SegmentSegment}
-use Rattle.segment.specs.Refusals.{number, Said, refused, given}
+use Rattle.segment.specs.declared.Refusal.{Refusal}
+use Rattle.segment.specs.Refusals.{Said, refused, given, said_as}
 use Rattle.station.specs.Outcomes.{Step, segments}
 use Rattle.model.specs.declared.Model.{Model as ModelModel}
-use Rattle.model.specs.declared.Answer.{Answer}
-use Rattle.model.specs.declared.Report.{Report}
+use Rattle.model.specs.declared.Told.{Told as ModelTold}
+use Rattle.model.specs.declared.Totals.{Totals}
 use Rattle.model.specs.Step.{Moved}
 use Rattle.model.specs.Play.{Run}
 use Rattle.numbers.specs.declared.Record.{Record}
@@ -67,9 +68,8 @@ stepped_of m (given moved) = record {
 }
 
 -- the number and values of an event's answer, with the model beside it
-abbrev pub answer_of : ModelModel → Answer → Said Moved
-answer_of m (Answer.Refused r) = refused (number r)
-answer_of m (Answer.Taken t) = given (record { model = m; sent = segments t.sent; drawn = t.drawn; turned = t.turned })
+abbrev pub answer_of : ModelModel → Result ModelTold Refusal → Said Moved
+answer_of m r = said_as (λ t. record { model = m; sent = segments t.sent; drawn = t.drawn; turned = t.turned }) r
 
 -- what is told of a list: after a refusal its number alone, and the model that came in
 abbrev pub played_of : Model → Said Run → Played
@@ -83,6 +83,5 @@ played_of m (given run) = record {
 }
 
 -- the number and values of a player's report, with the model beside it
-abbrev pub report_of : ModelModel → Report → Said Run
-report_of m (Report.Refused r) = refused (number r)
-report_of m (Report.Played t) = given (record { model = m; totals = t })
+abbrev pub report_of : ModelModel → Result Totals Refusal → Said Run
+report_of m r = said_as (λ t. record { model = m; totals = t }) r

@@ -2,21 +2,19 @@
 #![tactic(auto)]
 
 ghost use Rattle.std.specs.Prelude.{◌≡◌, length};
-ghost use Rattle.segment.specs.Read.{said_reading};
-ghost use Rattle.segment.specs.Refusals.{refused};
-ghost use Rattle.segment.specs.Write.{said_writing};
+ghost use Rattle.segment.specs.Refusals.{refused, said as answer_said};
 ghost use Rattle.station.specs.Outcomes.{said, segments};
-ghost use Rattle.telling.specs.Told.{no_header, no_segment, sent_numbers, told_of, reading_of, number_of, stepped_of, answer_of, played_of, report_of};
+ghost use Rattle.telling.specs.Told.{sent_numbers, told_of, reading_of, number_of, stepped_of, answer_of, played_of, report_of};
 
-use model::{Answer, Report};
+use model::Totals;
 use numbers::{Header, Model, Record, Segment};
-use segment::Writing;
-use station::{Outcome, Sent};
+use segment::Refusal;
+use station::Done;
 
 // What a call tells. A refusal has 01's number, 0 for none, and then the record that came in, nothing
 // sent and nothing drawn. Where nothing is sent the segment is zero.
 #[repr(C)]
-#[derive(Clone, Copy)]
+#[derive(Clone, Copy, Debug, PartialEq, Eq)]
 pub struct Told {
     pub next: Record,
     pub segment: Segment,
@@ -27,7 +25,7 @@ pub struct Told {
 
 // What a header read tells: the fields, or 01's number and zero.
 #[repr(C)]
-#[derive(Clone, Copy)]
+#[derive(Clone, Copy, Debug, PartialEq, Eq)]
 pub struct Reading {
     pub header: Header,
     pub refusal: u8,
@@ -36,7 +34,7 @@ pub struct Reading {
 // What one event tells: as a call does, and whether what was sent was turned away. After a refusal the
 // model that came in, and zero.
 #[repr(C)]
-#[derive(Clone, Copy)]
+#[derive(Clone, Copy, Debug, PartialEq, Eq)]
 pub struct Stepped {
     pub model: Model,
     pub segment: Segment,
@@ -48,7 +46,7 @@ pub struct Stepped {
 
 // What the player tells: after a refusal the model that came in and no totals.
 #[repr(C)]
-#[derive(Clone, Copy)]
+#[derive(Clone, Copy, Debug, PartialEq, Eq)]
 pub struct Played {
     pub model: Model,
     pub taken: usize,
@@ -59,120 +57,92 @@ pub struct Played {
 
 // ---- a station's step
 
-fn no_header() -> Header
-    ensures { result ≡ no_header }
-{
-    Header {
-        seq: 0,
-        ack: 0,
-        source: 0,
-        destination: 0,
-        window: 0,
-        urgent: 0,
-        control: 0,
-    }
-}
-
-fn no_segment() -> Segment
-    ensures { result ≡ no_segment }
-{
-    Segment {
-        header: no_header(),
-        src: 0,
-        dst: 0,
-        text: 0,
-    }
-}
-
 // The segment sent, or zero.
-fn sent_numbers(sent: Sent) -> Segment
+#[tactic(auto, unfolding(crate::specs::Told::no_segment, crate::specs::Told::no_header))]
+fn sent_numbers(sent: Option<segment::Segment>) -> Segment
     ensures { result ≡ sent_numbers (segments sent) }
 {
     match sent {
-        Sent::Nothing => no_segment(),
-        Sent::One(g) => numbers::segment_numbers(g),
+        Some(g) => Segment::from(g),
+        None => Segment::default(),
     }
 }
 
 // How many segments were sent.
-fn count_sent(sent: Sent) -> u8
+fn count_sent(sent: Option<segment::Segment>) -> u8
     ensures { result ≡ length (segments sent) }
 {
-    match sent {
-        Sent::Nothing => 0,
-        Sent::One(_) => 1,
-    }
+    u8::from(sent.is_some())
 }
 
 // A refusal: the record that came in, and 01's number.
+#[tactic(auto, unfolding(crate::specs::Told::no_segment, crate::specs::Told::no_header))]
 pub fn refused(r: Record, number: u8) -> Told
     ensures { result ≡ told_of r (refused number) }
 {
     Told {
         next: r,
-        segment: no_segment(),
+        segment: Segment::default(),
         refusal: number,
         sent: 0,
         drawn: 0,
     }
 }
 
-pub fn told_of(r: Record, o: Outcome) -> Told
-    ensures { result ≡ told_of r (said o) }
+pub fn told_of(r: Record, outcome: Result<Done, Refusal>) -> Told
+    ensures { result ≡ told_of r (said outcome) }
 {
-    match o {
-        Outcome::Refused(refusal) => refused(r, refusal.number()),
-        Outcome::Taken(done) => {
-            let next = done.next;
-            let sent = done.sent;
-            Told {
-                next: numbers::record_of(next),
-                segment: sent_numbers(sent),
-                refusal: 0,
-                sent: count_sent(sent),
-                drawn: numbers::bit_of(done.drawn),
-            }
-        }
+    match outcome {
+        Err(why) => refused(r, why.number()),
+        Ok(done) => Told {
+            next: Record::from(done.next),
+            segment: sent_numbers(done.sent),
+            refusal: 0,
+            sent: count_sent(done.sent),
+            drawn: u8::from(done.drawn),
+        },
     }
 }
 
 // ---- headers
 
 // What a reading tells.
-pub fn reading_of(reading: segment::Reading) -> Reading
-    ensures { result ≡ reading_of (said_reading reading) }
+#[tactic(auto, unfolding(crate::specs::Told::no_header))]
+pub fn reading_of(reading: Result<segment::Header, Refusal>) -> Reading
+    ensures { result ≡ reading_of (answer_said reading) }
 {
     match reading {
-        segment::Reading::Refused(refusal) => Reading {
-            header: no_header(),
-            refusal: refusal.number(),
+        Err(why) => Reading {
+            header: Header::default(),
+            refusal: why.number(),
         },
-        segment::Reading::Fields(h) => Reading {
-            header: numbers::header_numbers(h),
+        Ok(h) => Reading {
+            header: Header::from(h),
             refusal: 0,
         },
     }
 }
 
 // What a writing tells.
-pub fn number_of(writing: Writing) -> u8
-    ensures { result ≡ number_of (said_writing writing) }
+pub fn number_of(writing: Result<(), Refusal>) -> u8
+    ensures { result ≡ number_of (answer_said writing) }
 {
     match writing {
-        Writing::Refused(refusal) => refusal.number(),
-        Writing::Written => 0,
+        Err(why) => why.number(),
+        Ok(()) => 0,
     }
 }
 
 // ---- two stations and their links
 
 // A refusal: the model that came in and its number.
+#[tactic(auto, unfolding(crate::specs::Told::no_segment, crate::specs::Told::no_header))]
 pub fn not_stepped(m: Model, number: u8) -> Stepped
     ensures { result ≡ stepped_of m (refused number) }
 {
     Stepped {
         model: m,
-        segment: no_segment(),
+        segment: Segment::default(),
         refusal: number,
         sent: 0,
         drawn: 0,
@@ -180,25 +150,20 @@ pub fn not_stepped(m: Model, number: u8) -> Stepped
     }
 }
 
-// What an event's answer tells.
-pub fn stepped_of(m: Model, s: model::Stepped) -> Stepped
-    ensures { result ≡ stepped_of m (answer_of s.model s.answer) }
+// What an event's answer tells, with the model after it.
+pub fn stepped_of(m: Model, after: model::Model, answer: Result<model::Told, Refusal>) -> Stepped
+    ensures { result ≡ stepped_of m (answer_of after answer) }
 {
-    let answer = s.answer;
     match answer {
-        Answer::Refused(refusal) => not_stepped(m, refusal.number()),
-        Answer::Taken(told) => {
-            let next = s.model;
-            let sent = told.sent;
-            Stepped {
-                model: numbers::model_numbers(next),
-                segment: sent_numbers(sent),
-                refusal: 0,
-                sent: count_sent(sent),
-                drawn: numbers::bit_of(told.drawn),
-                turned: numbers::bit_of(told.turned),
-            }
-        }
+        Err(why) => not_stepped(m, why.number()),
+        Ok(told) => Stepped {
+            model: Model::from(after),
+            segment: sent_numbers(told.sent),
+            refusal: 0,
+            sent: count_sent(told.sent),
+            drawn: u8::from(told.drawn),
+            turned: u8::from(told.turned),
+        },
     }
 }
 
@@ -215,22 +180,18 @@ pub fn not_played(m: Model, number: u8) -> Played
     }
 }
 
-// What the player's report tells.
-pub fn played_of(m: Model, p: model::Played) -> Played
-    ensures { result ≡ played_of m (report_of p.model p.report) }
+// What the player's report tells, with the model after the list.
+pub fn played_of(m: Model, after: model::Model, report: Result<Totals, Refusal>) -> Played
+    ensures { result ≡ played_of m (report_of after report) }
 {
-    let report = p.report;
     match report {
-        Report::Refused(refusal) => not_played(m, refusal.number()),
-        Report::Played(totals) => {
-            let next = p.model;
-            Played {
-                model: numbers::model_numbers(next),
-                taken: totals.taken,
-                refused: totals.refused,
-                turned: totals.turned,
-                refusal: 0,
-            }
-        }
+        Err(why) => not_played(m, why.number()),
+        Ok(totals) => Played {
+            model: Model::from(after),
+            taken: totals.taken,
+            refused: totals.refused,
+            turned: totals.turned,
+            refusal: 0,
+        },
     }
 }
