@@ -2,142 +2,112 @@
 // The file `stdout` beside src/ was made from the papers, not by this program.
 #![tactic(auto)]
 
-use segment::{Arriving, Control, Header, Reading, Refusal, Segment, Writing};
-use std::io;
+use segment::{Control, Header, Refusal};
+use std::{fmt, io};
 
 // 10.0.0.1, 10.0.0.2 and 10.0.0.3.
-const ONE: u32 = 167772161;
+const ONE: u32 = 0x0a00_0001;
 
-const TWO: u32 = 167772162;
+const TWO: u32 = 0x0a00_0002;
 
-const THREE: u32 = 167772163;
+const THREE: u32 = 0x0a00_0003;
 
 // ---- printing
 
-fn text(rt: &impl Print, s: &[u8]) -> io::Result<()> {
-    rt.write_all(s)
-}
+// Each octet as two digits, with a space before it.
+#[derive(Clone, Copy)]
+struct Hex<'a>(&'a [u8]);
 
-fn number(rt: &impl Print, label: &[u8], n: u64) -> io::Result<()> {
-    text(rt, label)?;
-    print!(rt; "{n}")
-}
-
-// An octet as two digits, with a space before it.
-fn octet(rt: &impl Print, x: u8) -> io::Result<()> {
-    print!(rt; " {x:02x}")
-}
-
-fn hex(rt: &impl Print, s: &[u8]) -> io::Result<()> {
-    let mut i: usize = 0;
-    while i < s.len() {
-        octet(rt, s[i])?;
-        i += 1;
+impl fmt::Display for Hex<'_> {
+    fn fmt<W: fmt::Write>(&self, f: &mut fmt::Formatter<W>) -> fmt::Result {
+        for x in self.0 {
+            write!(f, " {x:02x}")?;
+        }
+        Ok(())
     }
-    Ok(())
-}
-
-fn bit(rt: &impl Print, on: bool, name: &[u8]) -> io::Result<()> {
-    if on {
-        text(rt, name)?;
-    }
-    Ok(())
-}
-
-fn any(k: Control) -> bool {
-    k.cwr | k.ece | k.urg | k.ack | k.psh | k.rst | k.syn | k.fin
 }
 
 // The control bits that are on, by name, high to low.
-fn bits(rt: &impl Print, k: Control) -> io::Result<()> {
-    bit(rt, k.cwr, b" CWR")?;
-    bit(rt, k.ece, b" ECE")?;
-    bit(rt, k.urg, b" URG")?;
-    bit(rt, k.ack, b" ACK")?;
-    bit(rt, k.psh, b" PSH")?;
-    bit(rt, k.rst, b" RST")?;
-    bit(rt, k.syn, b" SYN")?;
-    bit(rt, k.fin, b" FIN")?;
-    bit(rt, !any(k), b" none")
+#[derive(Clone, Copy)]
+struct Bits(Control);
+
+impl fmt::Display for Bits {
+    fn fmt<W: fmt::Write>(&self, f: &mut fmt::Formatter<W>) -> fmt::Result {
+        let k = self.0;
+        if k == Control::default() {
+            return write!(f, " none");
+        }
+        for (on, name) in [
+            (k.cwr, "CWR"),
+            (k.ece, "ECE"),
+            (k.urg, "URG"),
+            (k.ack, "ACK"),
+            (k.psh, "PSH"),
+            (k.rst, "RST"),
+            (k.syn, "SYN"),
+            (k.fin, "FIN"),
+        ] {
+            if on {
+                write!(f, " {name}")?;
+            }
+        }
+        Ok(())
+    }
 }
 
-fn refused(rt: &impl Print, refusal: Refusal) -> io::Result<()> {
-    number(rt, b" refused ", refusal.number() as u64)
+#[derive(Clone, Copy)]
+struct Fields(Header);
+
+impl fmt::Display for Fields {
+    fn fmt<W: fmt::Write>(&self, f: &mut fmt::Formatter<W>) -> fmt::Result {
+        let h = self.0;
+        write!(f, "source {} destination {} ", h.source, h.destination)?;
+        write!(f, "seq {} ack {} control{} ", h.seq, h.ack, Bits(h.control))?;
+        write!(f, "window {} urgent {}", h.window, h.urgent)
+    }
 }
 
-fn fields(rt: &impl Print, h: Header) -> io::Result<()> {
-    number(rt, b" source ", h.source as u64)?;
-    number(rt, b" destination ", h.destination as u64)?;
-    number(rt, b" seq ", h.seq as u64)?;
-    number(rt, b" ack ", h.ack as u64)?;
-    text(rt, b" control")?;
-    let control = h.control;
-    bits(rt, control)?;
-    number(rt, b" window ", h.window as u64)?;
-    number(rt, b" urgent ", h.urgent as u64)
+#[derive(Clone, Copy)]
+struct Refused(Refusal);
+
+impl fmt::Display for Refused {
+    fn fmt<W: fmt::Write>(&self, f: &mut fmt::Formatter<W>) -> fmt::Result {
+        write!(f, "refused {}", self.0.number())
+    }
 }
 
 // ---- one vector
 
-fn read(rt: &impl Print, label: &[u8], src: u32, dst: u32, s: &[u8]) -> io::Result<()> {
-    text(rt, label)?;
+fn read(rt: &impl Print, label: &str, src: u32, dst: u32, s: &[u8]) -> io::Result<()> {
     match segment::read(src, dst, s) {
-        Reading::Refused(refusal) => refused(rt, refusal)?,
-        Reading::Fields(h) => fields(rt, h)?,
+        Ok(h) => println!(rt; "{label}: {}", Fields(h)),
+        Err(refusal) => println!(rt; "{label}: {}", Refused(refusal)),
     }
-    text(rt, b"\n")
 }
 
-fn whole(rt: &impl Print, g: Segment) -> io::Result<()> {
-    let header = g.header;
-    fields(rt, header)?;
-    number(rt, b" text ", g.text as u64)
-}
-
-fn arriving(rt: &impl Print, label: &[u8], s: &[u8]) -> io::Result<()> {
-    text(rt, label)?;
+fn arriving(rt: &impl Print, label: &str, s: &[u8]) -> io::Result<()> {
     match segment::fields_with_text(ONE, TWO, s) {
-        Arriving::Refused(refusal) => refused(rt, refusal)?,
-        Arriving::Whole(g) => whole(rt, g)?,
+        Ok(g) => println!(rt; "{label}: {} text {}", Fields(g.header), g.text),
+        Err(refusal) => println!(rt; "{label}: {}", Refused(refusal)),
     }
-    text(rt, b"\n")
 }
 
 // The output holds aa in every octet before.
 fn write(
     rt: &impl Print,
-    label: &[u8],
+    label: &str,
     src: u32,
     dst: u32,
     h: Header,
     out: &mut [u8],
 ) -> io::Result<()> {
-    text(rt, label)?;
     match segment::write(src, dst, h, out) {
-        Writing::Refused(refusal) => {
-            refused(rt, refusal)?;
-            text(rt, b", output")?;
-        }
-        Writing::Written => text(rt, b" written")?,
+        Ok(()) => println!(rt; "{label}: written{}", Hex(out)),
+        Err(refusal) => println!(rt; "{label}: {}, output{}", Refused(refusal), Hex(out)),
     }
-    hex(rt, out)?;
-    text(rt, b"\n")
 }
 
 // ---- headers
-
-fn only_syn(fin: bool) -> Control {
-    Control {
-        cwr: false,
-        ece: false,
-        urg: false,
-        ack: false,
-        psh: false,
-        rst: false,
-        syn: true,
-        fin,
-    }
-}
 
 // P11's header, with a window and with FIN on or off.
 fn p11(window: u16, fin: bool) -> Header {
@@ -145,184 +115,144 @@ fn p11(window: u16, fin: bool) -> Header {
         source: 1024,
         destination: 2000,
         seq: 100,
-        ack: 0,
-        control: only_syn(fin),
+        control: Control {
+            syn: true,
+            fin,
+            ..Control::default()
+        },
         window,
-        urgent: 0,
+        ..Header::default()
     }
 }
 
-// Every control bit but FIN on or off.
-fn all_but_fin(on: bool) -> Control {
-    Control {
-        cwr: on,
-        ece: on,
-        urg: on,
-        ack: on,
-        psh: on,
-        rst: on,
-        syn: on,
-        fin: false,
-    }
-}
-
+// Every control bit but FIN.
 fn all_bits() -> Header {
     Header {
         source: 65535,
         destination: 258,
         seq: 16909060,
         ack: 4278255360,
-        control: all_but_fin(true),
+        control: Control {
+            cwr: true,
+            ece: true,
+            urg: true,
+            ack: true,
+            psh: true,
+            rst: true,
+            syn: true,
+            fin: false,
+        },
         window: 772,
         urgent: 1286,
     }
 }
 
-fn no_bits() -> Header {
-    Header {
-        source: 0,
-        destination: 0,
-        seq: 0,
-        ack: 0,
-        control: all_but_fin(false),
-        window: 0,
-        urgent: 0,
-    }
-}
-
-// P11's octets with octet 12, the checksum and the last octet as given.
-fn p11_octets(words: u8, high: u8, low: u8, last: u8) -> [u8; 20] {
+// P11's octets, but for octets 12 and 13, the window and the checksum.
+fn octets(words: u8, control: u8, window: u16, checksum: u16) -> [u8; 20] {
+    let [w1, w0] = window.to_be_bytes();
+    let [c1, c0] = checksum.to_be_bytes();
     [
-        4, 0, 7, 208, 0, 0, 0, 100, 0, 0, 0, 0, words, 2, 16, 0, high, low, 0, last,
+        0x04, 0x00, 0x07, 0xd0, 0, 0, 0, 0x64, 0, 0, 0, 0, words, control, w1, w0, c1, c0, 0, 0,
     ]
 }
 
-// P12's octets with a checksum.
-fn p12_octets(check: u8) -> [u8; 20] {
-    [
-        4, 0, 7, 208, 0, 0, 0, 100, 0, 0, 0, 0, 80, 2, 143, 172, check, check, 0, 0,
-    ]
-}
-
-// A header of 60 octets, 40 of them options of kind 1.
-fn options_40() -> [u8; 60] {
-    let mut s = [1u8; 60];
-    let head = [
-        255u8, 255, 0, 1, 18, 52, 86, 120, 154, 188, 222, 240, 240, 24, 0, 1, 5, 50, 0, 0,
-    ];
-    s[..20].copy_from_slice(&head);
-    s
+fn p11_octets() -> [u8; 20] {
+    octets(0x50, 0x02, 0x1000, 0x7fac)
 }
 
 // ---- the vectors, in the order of docs/VECTORS.md
 
 fn read_back(rt: &impl Print) -> io::Result<()> {
-    let mut p11_out = [170u8; 24];
-    write(rt, b"P11 write:", ONE, TWO, p11(4096, false), &mut p11_out)?;
-    read(rt, b"P11 read:", ONE, TWO, &p11_octets(80, 127, 172, 0))?;
-    let mut p12_out = [170u8; 20];
-    write(rt, b"P12 write:", ONE, TWO, p11(36780, false), &mut p12_out)?;
-    read(rt, b"P12 read 0000:", ONE, TWO, &p12_octets(0))?;
-    read(rt, b"P12 read ffff:", ONE, TWO, &p12_octets(255))
+    write(rt, "P11 write", ONE, TWO, p11(4096, false), &mut [0xaa; 24])?;
+    read(rt, "P11 read", ONE, TWO, &p11_octets())?;
+    let p12 = p11(36780, false);
+    write(rt, "P12 write", ONE, TWO, p12, &mut [0xaa; 20])?;
+    for (label, checksum) in [("P12 read 0000", 0), ("P12 read ffff", 0xffff)] {
+        read(rt, label, ONE, TWO, &octets(0x50, 0x02, 0x8fac, checksum))?;
+    }
+    Ok(())
 }
 
 fn options(rt: &impl Print) -> io::Result<()> {
     let mss = [
-        4u8, 0, 7, 208, 255, 255, 255, 255, 0, 0, 0, 0, 96, 2, 255, 255, 120, 84, 0, 0, 2, 4, 5,
-        180,
+        0x04, 0x00, 0x07, 0xd0, 0xff, 0xff, 0xff, 0xff, 0x00, 0x00, 0x00, 0x00, 0x60, 0x02, 0xff,
+        0xff, 0x78, 0x54, 0x00, 0x00, 0x02, 0x04, 0x05, 0xb4,
     ];
-    read(rt, b"options read:", ONE, TWO, &mss)?;
-    read(rt, b"options 40 read:", ONE, TWO, &options_40())?;
-    read(
-        rt,
-        b"reserved read:",
-        ONE,
-        TWO,
-        &p11_octets(95, 112, 172, 0),
-    )
+    read(rt, "options read", ONE, TWO, &mss)?;
+    // 40 octets of options, of kind 1.
+    let mut options_40 = [1; 60];
+    options_40[..20].copy_from_slice(&[
+        0xff, 0xff, 0x00, 0x01, 0x12, 0x34, 0x56, 0x78, 0x9a, 0xbc, 0xde, 0xf0, 0xf0, 0x18, 0x00,
+        0x01, 0x05, 0x32, 0x00, 0x00,
+    ]);
+    read(rt, "options 40 read", ONE, TWO, &options_40)?;
+    let reserved = octets(0x5f, 0x02, 0x1000, 0x70ac);
+    read(rt, "reserved read", ONE, TWO, &reserved)
 }
 
 fn every_bit(rt: &impl Print) -> io::Result<()> {
-    let mut all_out = [170u8; 20];
-    write(rt, b"all bits write:", ONE, TWO, all_bits(), &mut all_out)?;
+    write(rt, "all bits write", ONE, TWO, all_bits(), &mut [0xaa; 20])?;
     let all = [
-        255u8, 255, 1, 2, 1, 2, 3, 4, 255, 0, 255, 0, 80, 254, 3, 4, 143, 208, 5, 6,
+        0xff, 0xff, 0x01, 0x02, 0x01, 0x02, 0x03, 0x04, 0xff, 0x00, 0xff, 0x00, 0x50, 0xfe, 0x03,
+        0x04, 0x8f, 0xd0, 0x05, 0x06,
     ];
-    read(rt, b"all bits read:", ONE, TWO, &all)?;
-    let mut none_out = [170u8; 20];
-    write(rt, b"no bits write:", 0, 0, no_bits(), &mut none_out)?;
+    read(rt, "all bits read", ONE, TWO, &all)?;
+    let no_bits = Header::default();
+    write(rt, "no bits write", 0, 0, no_bits, &mut [0xaa; 20])?;
     let none = [
-        0u8, 0, 0, 0, 0, 0, 0, 0, 0, 0, 0, 0, 80, 0, 0, 0, 175, 229, 0, 0,
+        0, 0, 0, 0, 0, 0, 0, 0, 0, 0, 0, 0, 0x50, 0, 0, 0, 0xaf, 0xe5, 0, 0,
     ];
-    read(rt, b"no bits read:", 0, 0, &none)
+    read(rt, "no bits read", 0, 0, &none)
 }
 
 fn text_and_fin(rt: &impl Print) -> io::Result<()> {
     let hello = [
-        4u8, 0, 7, 208, 0, 0, 0, 100, 0, 0, 0, 0, 80, 24, 16, 0, 59, 191, 0, 0, 104, 101, 108, 108,
-        111,
+        0x04, 0x00, 0x07, 0xd0, 0x00, 0x00, 0x00, 0x64, 0x00, 0x00, 0x00, 0x00, 0x50, 0x18, 0x10,
+        0x00, 0x3b, 0xbf, 0x00, 0x00, 0x68, 0x65, 0x6c, 0x6c, 0x6f,
     ];
-    arriving(rt, b"text arriving:", &hello)?;
-    read(rt, b"text read:", ONE, TWO, &hello)?;
-    let fin = [
-        4u8, 0, 7, 208, 0, 0, 0, 100, 0, 0, 0, 0, 80, 17, 16, 0, 127, 157, 0, 0,
-    ];
-    arriving(rt, b"fin arriving:", &fin)?;
-    read(rt, b"fin read:", ONE, TWO, &fin)
+    arriving(rt, "text arriving", &hello)?;
+    read(rt, "text read", ONE, TWO, &hello)?;
+    let fin = octets(0x50, 0x11, 0x1000, 0x7f9d);
+    arriving(rt, "fin arriving", &fin)?;
+    read(rt, "fin read", ONE, TWO, &fin)
 }
 
 fn sizes(rt: &impl Print) -> io::Result<()> {
-    let short = [
-        4u8, 0, 7, 208, 0, 0, 0, 100, 0, 0, 0, 0, 80, 2, 16, 0, 127, 172, 0,
-    ];
-    read(rt, b"19 octets:", ONE, TWO, &short)?;
-    read(rt, b"no octets:", ONE, TWO, b"")?;
-    read(rt, b"65515 octets:", ONE, TWO, &[0u8; 65515])?;
-    read(rt, b"65516 octets:", ONE, TWO, &[0u8; 65516])
+    let whole = p11_octets();
+    let zeros = [0; 65516];
+    for (label, s) in [
+        ("19 octets", &whole[..19]),
+        ("no octets", &[]),
+        ("65515 octets", &zeros[..65515]),
+        ("65516 octets", &zeros),
+    ] {
+        read(rt, label, ONE, TWO, s)?;
+    }
+    Ok(())
 }
 
 fn damaged(rt: &impl Print) -> io::Result<()> {
-    read(rt, b"length 4:", ONE, TWO, &p11_octets(64, 127, 172, 0))?;
-    read(rt, b"length 6:", ONE, TWO, &p11_octets(96, 127, 172, 0))?;
-    read(
-        rt,
-        b"one bit wrong:",
-        ONE,
-        TWO,
-        &p11_octets(80, 127, 172, 1),
-    )?;
-    read(
-        rt,
-        b"other addresses:",
-        THREE,
-        TWO,
-        &p11_octets(80, 127, 172, 0),
-    )?;
-    read(
-        rt,
-        b"addresses turned:",
-        TWO,
-        ONE,
-        &p11_octets(80, 127, 172, 0),
-    )
+    let right = p11_octets();
+    let mut wrong = right;
+    wrong[19] = 1;
+    for (label, src, dst, s) in [
+        ("length 4", ONE, TWO, &octets(0x40, 0x02, 0x1000, 0x7fac)),
+        ("length 6", ONE, TWO, &octets(0x60, 0x02, 0x1000, 0x7fac)),
+        ("one bit wrong", ONE, TWO, &wrong),
+        ("other addresses", THREE, TWO, &right),
+        ("addresses turned", TWO, ONE, &right),
+    ] {
+        read(rt, label, src, dst, s)?;
+    }
+    Ok(())
 }
 
 fn refused_writes(rt: &impl Print) -> io::Result<()> {
-    let mut fin = [170u8; 24];
-    write(rt, b"fin write:", ONE, TWO, p11(4096, true), &mut fin)?;
-    let mut fin_short = [170u8; 19];
-    write(
-        rt,
-        b"fin write short:",
-        ONE,
-        TWO,
-        p11(4096, true),
-        &mut fin_short,
-    )?;
-    let mut short = [170u8; 19];
-    write(rt, b"short write:", ONE, TWO, p11(4096, false), &mut short)?;
-    let mut empty = [170u8; 0];
-    write(rt, b"empty write:", ONE, TWO, p11(4096, false), &mut empty)
+    let (right, fin) = (p11(4096, false), p11(4096, true));
+    write(rt, "fin write", ONE, TWO, fin, &mut [0xaa; 24])?;
+    write(rt, "fin write short", ONE, TWO, fin, &mut [0xaa; 19])?;
+    write(rt, "short write", ONE, TWO, right, &mut [0xaa; 19])?;
+    write(rt, "empty write", ONE, TWO, right, &mut [])
 }
 
 fn main(rt: HostRuntime) -> io::Result<()> {
