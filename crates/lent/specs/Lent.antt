@@ -1,38 +1,36 @@
 -- The lent calls (01, "A station's record": "The station record is lent by its owner and updated there").
-use Rattle.std.specs.Prelude.{ℕ, ◌≡◌, Bool, List}
+use Rattle.std.specs.Prelude.{ℕ, ◌≡◌, Bool, List, Result, Err}
 use Rattle.segment.specs.declared.Refusal.{Refusal}
 use Rattle.segment.specs.declared.Segment.{Segment}
-use Rattle.segment.specs.Refusals.{number, Said, refused, given}
+use Rattle.segment.specs.Refusals.{Said, refused, given, said_as}
 use Rattle.station.specs.Outcomes.{Step, segments, record_after}
 use Rattle.station.specs.Calls.{open_said, listen_said, abort_said, resend_said, power_cut_said}
 use Rattle.station.specs.Arrival.{arrive_said, octets_said}
 use Rattle.station.specs.declared.Station.{Station}
-use Rattle.lent.specs.declared.Answer.{Answer}
-use Rattle.lent.specs.declared.Answer.TheVariants.{Refused, Taken}
+use Rattle.lent.specs.declared.Reply.{Reply}
 
 -- what a lent call that is taken answers: what was sent, and whether the number offered was drawn
-pub record Reply : Type 0 where
+pub record Replied : Type 0 where
   pub sent : List Segment
   pub drawn : Bool
 
 -- a step's answer, without the record
-abbrev pub reply_of : Said Step → Said Reply
+abbrev pub reply_of : Said Step → Said Replied
 reply_of (refused n) = refused n
 reply_of (given step) = given (record { sent = step.sent; drawn = step.drawn })
 
--- the number and values of each answer
-abbrev pub said_answer : Answer → Said Reply
-said_answer (Refused r) = refused (number r)
-said_answer (Taken sent drawn) = given (record { sent = segments sent; drawn = drawn })
+-- the values of a reply
+abbrev pub replied : Reply → Replied
+replied r = record { sent = segments r.sent; drawn = r.drawn }
 
 -- the promise of a lent call: the answer, and the record at exit, after a refusal the one before it (the request's demand 1)
-pub record Lent (before : Station) (x : Said Step) (after : Station) (r : Answer) : Type 0 where
-  pub answer : said_answer r ≡ reply_of x
+pub record Lent (before : Station) (x : Said Step) (after : Station) (r : Result Reply Refusal) : Type 0 where
+  pub answer : said_as replied r ≡ reply_of x
   pub station : after ≡ record_after before x
 
 -- where a call that says x refuses, the record at exit is the one before
 abbrev pub Unchanged : (Station → Said Step) → Type 0
-Unchanged x = (before after : Station) (why : Refusal) → Lent before (x before) after (Refused why) → after ≡ before
+Unchanged x = (before after : Station) (why : Refusal) → Lent before (x before) after (Err why) → after ≡ before
 
 -- each lent call: "Each refusal carries its number from the papers, and then the record .. [is] unchanged" (the request's demand 1)
 pub record RefusedUnchanged : Type 0 where
@@ -46,4 +44,4 @@ pub record RefusedUnchanged : Type 0 where
 
 -- the promises leave one outcome (01, "How far a contract must go")
 pub record OneOutcome : Type 0 where
-  pub answers : (before : Station) (x : Said Step) (a a' : Station) (r r' : Answer) → Lent before x a r → Lent before x a' r' → (r ≡ r') × (a ≡ a')
+  pub answers : (before : Station) (x : Said Step) (a a' : Station) (r r' : Result Reply Refusal) → Lent before x a r → Lent before x a' r' → (r ≡ r') × (a ≡ a')

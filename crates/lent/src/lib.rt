@@ -8,107 +8,80 @@ ghost use Rattle.station.specs.Arrival.{arrive_said, octets_said};
 ghost use Rattle.lent.specs.Lent.{Lent, OneOutcome, RefusedUnchanged};
 
 use segment::{Refusal, Segment};
-use station::{Outcome, Sent, Station};
+use station::{Done, Station};
 
-// What a lent call answers: a refusal, or what was sent and whether the number offered was drawn.
-#[derive(Clone, Copy)]
-pub enum Answer {
-    Refused(Refusal),
-    Taken(Sent, bool),
+// What a lent call that is taken answers: what was sent, and whether the number offered was drawn.
+#[derive(Clone, Copy, Debug, PartialEq, Eq)]
+pub struct Reply {
+    pub sent: Option<Segment>,
+    pub drawn: bool,
 }
 
-// The record after a call, and its answer.
-#[derive(Clone, Copy)]
-pub struct Told {
-    pub station: Station,
-    pub answer: Answer,
-}
-
-// What is told of an outcome: after a refusal the record is the one that came in.
-fn tell(s: Station, o: Outcome) -> Told
-    ensures { Lent s (said o) result.station result.answer }
+// A call on a copy of the record; the next record is stored, after a refusal none.
+fn lend<F: FnOnce(Station) -> Result<Done, Refusal>>(
+    s: &mut Station,
+    call: F,
+) -> Result<Reply, Refusal>
+    requires { F.pre call s.old }
+    ensures { (r : _) × F.post call s.old r × Lent s.old (said r) s.new result }
 {
-    match o {
-        Outcome::Refused(refusal) => Told {
-            station: s,
-            answer: Answer::Refused(refusal),
-        },
-        Outcome::Taken(done) => {
-            let next = done.next;
-            let sent = done.sent;
-            Told {
-                station: next,
-                answer: Answer::Taken(sent, done.drawn),
-            }
-        }
-    }
+    let done = call(*s)?;
+    *s = done.next;
+    Ok(Reply {
+        sent: done.sent,
+        drawn: done.drawn,
+    })
 }
 
-// ---- the lent calls. Each makes the station's call on a copy of the record and stores the next one, and
-// no more.
+// ---- the lent calls, each the station's call of its name
 
-pub fn open_lent(s: &mut Station, n: u32) -> Answer
+pub fn open_lent(s: &mut Station, n: u32) -> Result<Reply, Refusal>
     ensures { Lent s.old (open_said s.old n) s.new result }
 {
-    let before = *s;
-    let told = tell(before, before.open(n));
-    *s = told.station;
-    told.answer
+    lend(s, |before| before.open(n))
 }
 
-pub fn listen_lent(s: &mut Station) -> Answer
+pub fn listen_lent(s: &mut Station) -> Result<Reply, Refusal>
     ensures { Lent s.old (listen_said s.old) s.new result }
 {
-    let before = *s;
-    let told = tell(before, before.listen());
-    *s = told.station;
-    told.answer
+    lend(s, |before| before.listen())
 }
 
-pub fn abort_lent(s: &mut Station) -> Answer
+pub fn abort_lent(s: &mut Station) -> Result<Reply, Refusal>
     ensures { Lent s.old (abort_said s.old) s.new result }
 {
-    let before = *s;
-    let told = tell(before, before.abort());
-    *s = told.station;
-    told.answer
+    lend(s, |before| before.abort())
 }
 
-pub fn resend_lent(s: &mut Station) -> Answer
+pub fn resend_lent(s: &mut Station) -> Result<Reply, Refusal>
     ensures { Lent s.old (resend_said s.old) s.new result }
 {
-    let before = *s;
-    let told = tell(before, before.resend());
-    *s = told.station;
-    told.answer
+    lend(s, |before| before.resend())
 }
 
-pub fn power_cut_lent(s: &mut Station) -> Answer
+pub fn power_cut_lent(s: &mut Station) -> Result<Reply, Refusal>
     ensures { Lent s.old (power_cut_said s.old) s.new result }
 {
-    let before = *s;
-    let told = tell(before, before.power_cut());
-    *s = told.station;
-    told.answer
+    lend(s, |before| before.power_cut())
 }
 
-pub fn arrive_lent(s: &mut Station, g: Segment, fresh: u32) -> Answer
+pub fn arrive_lent(s: &mut Station, g: Segment, fresh: u32) -> Result<Reply, Refusal>
     ensures { Lent s.old (arrive_said s.old g fresh) s.new result }
 {
-    let before = *s;
-    let told = tell(before, before.arrive(g, fresh));
-    *s = told.station;
-    told.answer
+    lend(s, |before| before.arrive(g, fresh))
 }
 
 // Octets arrive between two addresses.
-pub fn octets_lent(s: &mut Station, src: u32, dst: u32, octets: &[u8], fresh: u32) -> Answer
+pub fn octets_lent(
+    s: &mut Station,
+    src: u32,
+    dst: u32,
+    octets: &[u8],
+    fresh: u32,
+) -> Result<Reply, Refusal>
     ensures { Lent s.old (octets_said s.old src dst octets.now fresh) s.new result }
 {
-    let before = *s;
-    let told = tell(before, before.arrive_octets(src, dst, octets, fresh));
-    *s = told.station;
-    told.answer
+    lend(s, |before| before.arrive_octets(src, dst, octets, fresh))
 }
 
 // ---- theorems, each promised by a function that does nothing

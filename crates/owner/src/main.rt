@@ -3,156 +3,133 @@
 // program.
 #![tactic(auto)]
 
-ghost use Rattle.std.specs.Prelude.{◌≡◌, IfOk};
-ghost use Rattle.station.specs.Calls.{open_said, listen_said, abort_said, resend_said, power_cut_said};
-ghost use Rattle.station.specs.Arrival.{arrive_said, octets_said};
-ghost use Rattle.lent.specs.Lent.{Lent};
+ghost use Rattle.std.specs.Prelude.{◌≡◌};
+ghost use Rattle.std.specs.Fn.{FnOnceReturnsAtMut};
 
-use lent::{Answer, Told};
-use segment::{Control, Header, Segment};
-use station::{Sent, State, Station};
-use std::io;
+use lent::Reply;
+use segment::{Control, Header, Refusal, Segment};
+use station::{State, Station};
+use std::{fmt, io};
 
 // 10.0.0.2 port 2000, the owner's, and 10.0.0.1 port 1024, its peer's (01, "The program").
-const OWN: u32 = 167772162;
+const OWN: u32 = 0x0a00_0002;
 
 const OWN_PORT: u16 = 2000;
 
-const PEER: u32 = 167772161;
+const PEER: u32 = 0x0a00_0001;
 
 const PEER_PORT: u16 = 1024;
 
-// ---- the owner's calls. Each lends its record to the lent call, and hands it back beside the answer.
-
-fn open_own(mut s: Station, n: u32) -> Told
-    ensures { Lent s (open_said s n) result.station result.answer }
-{
-    let answer = lent::open_lent(&mut s, n);
-    Told { station: s, answer }
-}
-
-fn listen_own(mut s: Station) -> Told
-    ensures { Lent s (listen_said s) result.station result.answer }
-{
-    let answer = lent::listen_lent(&mut s);
-    Told { station: s, answer }
-}
-
-fn abort_own(mut s: Station) -> Told
-    ensures { Lent s (abort_said s) result.station result.answer }
-{
-    let answer = lent::abort_lent(&mut s);
-    Told { station: s, answer }
-}
-
-fn resend_own(mut s: Station) -> Told
-    ensures { Lent s (resend_said s) result.station result.answer }
-{
-    let answer = lent::resend_lent(&mut s);
-    Told { station: s, answer }
-}
-
-fn power_cut_own(mut s: Station) -> Told
-    ensures { Lent s (power_cut_said s) result.station result.answer }
-{
-    let answer = lent::power_cut_lent(&mut s);
-    Told { station: s, answer }
-}
-
-fn arrive_own(mut s: Station, g: Segment, fresh: u32) -> Told
-    ensures { Lent s (arrive_said s g fresh) result.station result.answer }
-{
-    let answer = lent::arrive_lent(&mut s, g, fresh);
-    Told { station: s, answer }
-}
-
-fn octets_own(mut s: Station, src: u32, dst: u32, octets: &[u8], fresh: u32) -> Told
-    ensures { Lent s (octets_said s src dst octets.now fresh) result.station result.answer }
-{
-    let answer = lent::octets_lent(&mut s, src, dst, octets, fresh);
-    Told { station: s, answer }
-}
-
 // ---- printing
 
-fn text(rt: &impl Print, s: &[u8]) -> io::Result<()> {
-    rt.write_all(s)
+// A text that is printed only of what is on.
+fn word(on: bool, text: &'static str) -> &'static str {
+    if on { text } else { "" }
 }
 
-fn number(rt: &impl Print, label: &[u8], n: u64) -> io::Result<()> {
-    text(rt, label)?;
-    print!(rt; "{n}")
-}
-
-fn bit(rt: &impl Print, on: bool, name: &[u8]) -> io::Result<()> {
-    if on {
-        text(rt, name)?;
-    }
-    Ok(())
-}
-
-fn one(rt: &impl Print, g: Segment) -> io::Result<()> {
-    let h = g.header;
-    let control = h.control;
-    bit(rt, control.rst, b" RST")?;
-    bit(rt, control.syn, b" SYN")?;
-    bit(rt, control.ack, b" ACK")?;
-    number(rt, b" seq ", h.seq as u64)?;
-    number(rt, b" ack ", h.ack as u64)?;
-    number(rt, b" window ", h.window as u64)
-}
-
-fn sent(rt: &impl Print, s: Sent) -> io::Result<()> {
-    text(rt, b" sent")?;
-    match s {
-        Sent::Nothing => text(rt, b" nothing"),
-        Sent::One(g) => one(rt, g),
+fn name(state: State) -> &'static str {
+    match state {
+        State::Closed => "CLOSED",
+        State::Listen => "LISTEN",
+        State::SynSent => "SYN-SENT",
+        State::SynReceived => "SYN-RECEIVED",
+        State::Established => "ESTABLISHED",
     }
 }
 
-fn answered(rt: &impl Print, a: Answer) -> io::Result<()> {
-    match a {
-        Answer::Refused(refusal) => number(rt, b" refused ", refusal.number() as u64),
-        Answer::Taken(s, drawn) => {
-            sent(rt, s)?;
-            bit(rt, drawn, b", number drawn")
+// What was sent: nothing, or a segment's bits, numbers and window.
+#[derive(Clone, Copy)]
+struct Sent(Option<Segment>);
+
+impl fmt::Display for Sent {
+    fn fmt<W: fmt::Write>(&self, f: &mut fmt::Formatter<W>) -> fmt::Result {
+        let Some(g) = self.0 else {
+            return f.write_str(" nothing");
+        };
+        let h = g.header;
+        let rst = word(h.control.rst, " RST");
+        let syn = word(h.control.syn, " SYN");
+        let ack = word(h.control.ack, " ACK");
+        write!(
+            f,
+            "{rst}{syn}{ack} seq {} ack {} window {}",
+            h.seq, h.ack, h.window
+        )
+    }
+}
+
+// A refusal's number, or what was sent and whether the number offered was drawn.
+#[derive(Clone, Copy)]
+struct Answer(Result<Reply, Refusal>);
+
+impl fmt::Display for Answer {
+    fn fmt<W: fmt::Write>(&self, f: &mut fmt::Formatter<W>) -> fmt::Result {
+        match self.0 {
+            Ok(reply) => {
+                let sent = Sent(reply.sent);
+                let drawn = word(reply.drawn, ", number drawn");
+                write!(f, " sent{sent}{drawn}")
+            }
+            Err(refusal) => write!(f, " refused {}", refusal.number()),
         }
     }
 }
 
-fn state(rt: &impl Print, s: State) -> io::Result<()> {
-    match s {
-        State::Closed => text(rt, b"; CLOSED"),
-        State::Listen => text(rt, b"; LISTEN"),
-        State::SynSent => text(rt, b"; SYN-SENT"),
-        State::SynReceived => text(rt, b"; SYN-RECEIVED"),
-        State::Established => text(rt, b"; ESTABLISHED"),
+// A record in 01's words, without its endpoints.
+#[derive(Clone, Copy)]
+struct Fields(Station);
+
+impl fmt::Display for Fields {
+    fn fmt<W: fmt::Write>(&self, f: &mut fmt::Formatter<W>) -> fmt::Result {
+        let s = self.0;
+        let state = name(s.state);
+        let mark = word(s.passive, " marked");
+        write!(f, "{state}{mark} ISS {} UNA {} NXT {}", s.iss, s.una, s.nxt)?;
+        write!(
+            f,
+            " IRS {} RCV.NXT {} RCV.WND {}",
+            s.irs, s.rcvnxt, s.rcvwnd
+        )
     }
 }
 
-fn fields(rt: &impl Print, s: Station) -> io::Result<()> {
-    let at = s.state;
-    state(rt, at)?;
-    bit(rt, s.passive, b" marked")?;
-    number(rt, b" ISS ", s.iss as u64)?;
-    number(rt, b" UNA ", s.una as u64)?;
-    number(rt, b" NXT ", s.nxt as u64)?;
-    number(rt, b" IRS ", s.irs as u64)?;
-    number(rt, b" RCV.NXT ", s.rcvnxt as u64)?;
-    number(rt, b" RCV.WND ", s.rcvwnd as u64)
+// ---- the owner's calls
+
+// What a call did: its answer, and the record after it.
+#[derive(Clone, Copy)]
+struct Told {
+    answer: Result<Reply, Refusal>,
+    station: Station,
 }
 
-// The line of one call; the record after it is handed on to the next.
-fn show(rt: &impl Print, label: &[u8], told: Told) -> io::Result<Station>
-    ensures { IfOk result (λ s. s ≡ told.station) }
+// Lends the record to a call.
+fn own<F: FnOnce(&mut Station) -> Result<Reply, Refusal>>(s: &mut Station, call: F) -> Told
+    requires { F.IsAlwaysCallable call }
+    ensures lent { FnOnceReturnsAtMut F.FnOnce call s.old result.answer s.new }
+    ensures told { result.station ≡ s.new }
 {
-    text(rt, label)?;
-    let answer = told.answer;
-    answered(rt, answer)?;
-    let after = told.station;
-    fields(rt, after)?;
-    text(rt, b"\n")?;
-    Ok(after)
+    let answer = call(s);
+    Told {
+        answer,
+        station: *s,
+    }
+}
+
+// Lends the record to a call, and prints the line of it; also where that fails the record is the one
+// that the call left.
+fn show<F: FnOnce(&mut Station) -> Result<Reply, Refusal>>(
+    rt: &impl Print,
+    label: &str,
+    s: &mut Station,
+    call: F,
+) -> io::Result<()>
+    requires { F.IsAlwaysCallable call }
+    ensures { (r : _) × FnOnceReturnsAtMut F.FnOnce call s.old r s.new }
+{
+    let told = own(s, call);
+    let answer = Answer(told.answer);
+    let after = Fields(told.station);
+    println!(rt; "{label}{answer}; {after}")
 }
 
 // ---- records and segments
@@ -178,14 +155,10 @@ fn closed(iss: u32) -> Station {
 // ACK, and SYN and FIN as given.
 fn bits(syn: bool, fin: bool) -> Control {
     Control {
-        cwr: false,
-        ece: false,
-        urg: false,
         ack: true,
-        psh: false,
-        rst: false,
         syn,
         fin,
+        ..Control::default()
     }
 }
 
@@ -198,13 +171,13 @@ fn from_peer(source: u16, seq: u32, ack: u32, control: Control) -> Segment {
         ack,
         control,
         window: 4096,
-        urgent: 0,
+        ..Header::default()
     };
     Segment {
         header,
         src: PEER,
         dst: OWN,
-        text: 0,
+        ..Segment::default()
     }
 }
 
@@ -223,87 +196,77 @@ fn ack_101(fin: bool) -> Segment {
 // ---- the runs
 
 // P1, after a listen and the refusals 7 and 4; then a resend.
-fn heard(rt: &impl Print, s: Station) -> io::Result<Station> {
-    let s = show(rt, b"listen:", listen_own(s))?;
-    let s = show(rt, b"listen again:", listen_own(s))?;
-    let s = show(
-        rt,
-        b"SYN 100, a bit wrong:",
-        octets_own(s, PEER, OWN, &syn_octets(1), 300),
-    )?;
-    let s = show(
-        rt,
-        b"SYN 100, fresh 300:",
-        octets_own(s, PEER, OWN, &syn_octets(0), 300),
-    )?;
-    show(rt, b"resend:", resend_own(s))
+fn heard(rt: &impl Print, s: &mut Station) -> io::Result<()> {
+    show(rt, "listen:", s, lent::listen_lent)?;
+    show(rt, "listen again:", s, lent::listen_lent)?;
+    show(rt, "SYN 100, a bit wrong:", s, |s| {
+        lent::octets_lent(s, PEER, OWN, &syn_octets(1), 300)
+    })?;
+    show(rt, "SYN 100, fresh 300:", s, |s| {
+        lent::octets_lent(s, PEER, OWN, &syn_octets(0), 300)
+    })?;
+    show(rt, "resend:", s, lent::resend_lent)
 }
 
 // P2, after the refusals 5 and 6.
-fn acknowledged(rt: &impl Print, s: Station) -> io::Result<Station> {
-    let s = show(
-        rt,
-        b"ACK 101 ack 301 of another port:",
-        arrive_own(s, from_peer(1025, 101, 301, bits(false, false)), 700),
-    )?;
-    let s = show(
-        rt,
-        b"ACK 101 ack 301 with FIN:",
-        arrive_own(s, ack_101(true), 700),
-    )?;
-    show(rt, b"ACK 101 ack 301:", arrive_own(s, ack_101(false), 700))
+fn acknowledged(rt: &impl Print, s: &mut Station) -> io::Result<()> {
+    show(rt, "ACK 101 ack 301 of another port:", s, |s| {
+        lent::arrive_lent(s, from_peer(1025, 101, 301, bits(false, false)), 700)
+    })?;
+    show(rt, "ACK 101 ack 301 with FIN:", s, |s| {
+        lent::arrive_lent(s, ack_101(true), 700)
+    })?;
+    show(rt, "ACK 101 ack 301:", s, |s| {
+        lent::arrive_lent(s, ack_101(false), 700)
+    })
 }
 
 // What ESTABLISHED refuses with 7, 8 and 4; then an abort, and one too many.
-fn aborted(rt: &impl Print, s: Station) -> io::Result<Station> {
-    let s = show(rt, b"open 700:", open_own(s, 700))?;
-    let s = show(rt, b"resend:", resend_own(s))?;
-    let s = show(
-        rt,
-        b"SYN 100, a bit wrong:",
-        octets_own(s, PEER, OWN, &syn_octets(1), 700),
-    )?;
-    let s = show(rt, b"abort:", abort_own(s))?;
-    show(rt, b"abort again:", abort_own(s))
+fn aborted(rt: &impl Print, s: &mut Station) -> io::Result<()> {
+    show(rt, "open 700:", s, |s| lent::open_lent(s, 700))?;
+    show(rt, "resend:", s, lent::resend_lent)?;
+    show(rt, "SYN 100, a bit wrong:", s, |s| {
+        lent::octets_lent(s, PEER, OWN, &syn_octets(1), 700)
+    })?;
+    show(rt, "abort:", s, lent::abort_lent)?;
+    show(rt, "abort again:", s, lent::abort_lent)
 }
 
 // P8, with a resend on the way; then a power cut.
-fn opened(rt: &impl Print, s: Station) -> io::Result<()> {
-    let s = show(rt, b"open 4294967295:", open_own(s, 4294967295))?;
-    let s = show(rt, b"resend:", resend_own(s))?;
-    let s = show(
+fn opened(rt: &impl Print, s: &mut Station) -> io::Result<()> {
+    show(
         rt,
-        b"SYN,ACK 300 ack 0:",
-        arrive_own(s, from_peer(PEER_PORT, 300, 0, bits(true, false)), 700),
+        "open 4294967295:",
+        s,
+        |s| lent::open_lent(s, 4294967295),
     )?;
-    show(rt, b"power cut:", power_cut_own(s))?;
-    Ok(())
+    show(rt, "resend:", s, lent::resend_lent)?;
+    show(rt, "SYN,ACK 300 ack 0:", s, |s| {
+        lent::arrive_lent(s, from_peer(PEER_PORT, 300, 0, bits(true, false)), 700)
+    })?;
+    show(rt, "power cut:", s, lent::power_cut_lent)
 }
 
 // What every call refuses with 1, before any other cause: a record that is not of the forms.
-fn broken(rt: &impl Print, s: Station) -> io::Result<()> {
-    let s = show(rt, b"broken, open 700:", open_own(s, 700))?;
-    let s = show(rt, b"broken, listen:", listen_own(s))?;
-    let s = show(rt, b"broken, abort:", abort_own(s))?;
-    let s = show(rt, b"broken, resend:", resend_own(s))?;
-    let s = show(rt, b"broken, power cut:", power_cut_own(s))?;
-    let s = show(
-        rt,
-        b"broken, ACK 101 ack 301 with FIN:",
-        arrive_own(s, ack_101(true), 700),
-    )?;
-    show(
-        rt,
-        b"broken, SYN 100, a bit wrong:",
-        octets_own(s, PEER, OWN, &syn_octets(1), 700),
-    )?;
-    Ok(())
+fn broken(rt: &impl Print, s: &mut Station) -> io::Result<()> {
+    show(rt, "broken, open 700:", s, |s| lent::open_lent(s, 700))?;
+    show(rt, "broken, listen:", s, lent::listen_lent)?;
+    show(rt, "broken, abort:", s, lent::abort_lent)?;
+    show(rt, "broken, resend:", s, lent::resend_lent)?;
+    show(rt, "broken, power cut:", s, lent::power_cut_lent)?;
+    show(rt, "broken, ACK 101 ack 301 with FIN:", s, |s| {
+        lent::arrive_lent(s, ack_101(true), 700)
+    })?;
+    show(rt, "broken, SYN 100, a bit wrong:", s, |s| {
+        lent::octets_lent(s, PEER, OWN, &syn_octets(1), 700)
+    })
 }
 
 fn main(rt: HostRuntime) -> io::Result<()> {
-    let received = heard(&rt, closed(0))?;
-    let established = acknowledged(&rt, received)?;
-    let over = aborted(&rt, established)?;
-    opened(&rt, over)?;
-    broken(&rt, closed(5))
+    let mut s = closed(0);
+    heard(&rt, &mut s)?;
+    acknowledged(&rt, &mut s)?;
+    aborted(&rt, &mut s)?;
+    opened(&rt, &mut s)?;
+    broken(&rt, &mut closed(5))
 }
