@@ -1,22 +1,18 @@
 -- A datagram is read from its own octets. Assumes nothing.
 use Prim.Native.Nat.{ℕ, ◌+◌, ◌-◌, ◌*◌, ◌≤◌, ◌<◌}
 use mathlib.Core.Path.{◌≡◌, sym, ap, ◌∙◌}
-use mathlib.Core.Bool.{false, not, ◌||◌}
+use mathlib.Core.Bool.{false}
 use mathlib.Core.List.{List, ◌++◌}
 use native.Mathlib.Omega.{arith}
 use lib.ListN.{length, get_or, take, drop, length-take}
-use lib.Seq.{get_or-take, take-add, take_at, drop_at, length-take-le}
-use lib.Dec.{ltb, eqb}
-use borrow.Author.Tests.{ltb-false, le-ltb, eqb-true, eq-eqb, not-false}
+use lib.Seq.{get_or-take, take_at, length-take-le}
+use Rattle.std.proofs.lemmas.Bool.Decides.{nat_tests}
+use Rattle.std.proofs.lemmas.List.{drop-take}
 use Rattle.segment.specs.Refusals.{Said}
-use Rattle.segment.proofs.Tests.{neither}
-use Rattle.station.specs.Outcomes.{Step, segments}
+use Rattle.station.specs.Outcomes.{Step}
 use Rattle.station.specs.Arrival.{octets_said}
-use Rattle.datagram.specs.declared.Hearing.{Hearing}
-use Rattle.datagram.specs.Layout.{version, header_size, total_size, protocol, source_address, destination_address, carried_by, stops_at}
-use Rattle.datagram.specs.Program.{Box, heard_by, heard}
-use Rattle.datagram.specs.Promises.{heard_of, sent_by, Hears}
-use Rattle.datagram.proofs.Sending.{replies}
+use Rattle.datagram.specs.Layout.{version, header_size, total_size, source_address, destination_address, carried_by, stops_at}
+use Rattle.datagram.specs.Program.{Box, heard}
 
 -- a datagram at which it does not stop, as facts
 pub record Whole (s : List ℕ) : Type 0 where
@@ -28,29 +24,17 @@ pub record Whole (s : List ℕ) : Type 0 where
 
 pub whole : (s : List ℕ) → stops_at s ≡ false → Whole s
 unfolding stops_at
-whole s e =
-    let a = neither (not (eqb (version s) 4) || ltb (header_size s) 20 || ltb (total_size s) (header_size s) || ltb 1500 (total_size s)) (ltb (length s) (total_size s)) e in
-    let b = neither (not (eqb (version s) 4) || ltb (header_size s) 20 || ltb (total_size s) (header_size s)) (ltb 1500 (total_size s)) a.0 in
-    let c = neither (not (eqb (version s) 4) || ltb (header_size s) 20) (ltb (total_size s) (header_size s)) b.0 in
-    let d = neither (not (eqb (version s) 4)) (ltb (header_size s) 20) c.0 in
-    record {
-      four = eqb-true (version s) 4 (not-false (eqb (version s) 4) d.0);
-      header = ltb-false (header_size s) 20 d.1;
-      within = ltb-false (total_size s) (header_size s) c.1;
-      most = ltb-false 1500 (total_size s) b.1;
-      there = ltb-false (length s) (total_size s) a.1;
-    }
+whole s e = record {
+  four = grind (arith, nat_tests);
+  header = grind (arith, nat_tests);
+  within = grind (arith, nat_tests);
+  most = grind (arith, nat_tests);
+  there = grind (arith, nat_tests);
+}
 
 pub goes_on : (s : List ℕ) → Whole s → stops_at s ≡ false
 unfolding stops_at
-goes_on s w =
-    simp (
-      eq-eqb (version s) 4 w.four,
-      le-ltb (header_size s) 20 w.header,
-      le-ltb (total_size s) (header_size s) w.within,
-      le-ltb 1500 (total_size s) w.most,
-      le-ltb (length s) (total_size s) w.there,
-    )
+goes_on s w = grind (arith, nat_tests)
 
 -- t begins with the datagram that s begins with
 module _ (s t : List ℕ) (w : Whole s) (e : take (total_size s) t ≡ take (total_size s) s) where
@@ -98,12 +82,10 @@ module _ (s t : List ℕ) (w : Whole s) (e : take (total_size s) t ≡ take (tot
       )
 
 -- what stands between two places
-pub between : (a z : ℕ) (s : List ℕ) → a ≤ z → a ≤ length s → drop a (take z s) ≡ take (z - a) (drop a s)
-between a z s h k =
+pub between : (a z : ℕ) (s : List ℕ) → a ≤ z → drop a (take z s) ≡ take (z - a) (drop a s)
+between a z s h =
     let e : z ≡ a + (z - a) = omega arith in
-    ap (λ (n : ℕ). drop a (take n s)) e
-    ∙ ap (drop a) (take-add a (z - a) s)
-    ∙ drop_at (take a s) (take (z - a) (drop a s)) a (length-take-le a s k)
+    ap (λ (n : ℕ). drop a (take n s)) e ∙ drop-take a (z - a) s
 
 -- a frame filled with a datagram begins with it
 pub framed : (s front zeros : List ℕ) → Whole s → front ≡ take (total_size s) s → take (total_size s) (front ++ zeros) ≡ take (total_size s) s
@@ -115,15 +97,28 @@ framed s front zeros w e =
 abbrev pub arrived : Box → List ℕ → Said Step
 arrived b s = octets_said b.station (source_address s) (destination_address s) (carried_by s) (65536 * (b.drawn + 1))
 
-pub carried_part : (s : List ℕ) → Whole s → take (total_size s - header_size s) (drop (header_size s) s) ≡ carried_by s
+-- a frame that begins with a datagram is read as the datagram is
+module _ (s front behind : List ℕ) (go : stops_at s ≡ false) (filled : front ≡ take (total_size s) s) where
+  begins : take (total_size s) (front ++ behind) ≡ take (total_size s) s
+  begins = framed s front behind (whole s go) filled
+
+  pub stops_framed : stops_at (front ++ behind) ≡ false
+  stops_framed = goes_on _ (whole_same s _ (whole s go) begins)
+
+  pub heard_framed : (b : Box) → heard b (front ++ behind) ≡ heard b s
+  heard_framed b = heard_same s _ (whole s go) begins b
+
+pub carried_part : (s : List ℕ) → stops_at s ≡ false → take (total_size s - header_size s) (drop (header_size s) s) ≡ carried_by s
 unfolding carried_by
-carried_part s w = sym (between (header_size s) (total_size s) s w.within (omega arith))
+carried_part s go = sym (between (header_size s) (total_size s) s (whole s go).within)
 
-module _ (b : Box) (s : List ℕ) (r : Hearing) where
-  -- what is heard of a frame that begins with a datagram is what is heard of the datagram
-  pub hears_framed : (frame : List ℕ) → Whole s → take (total_size s) frame ≡ take (total_size s) s → Hears b frame r → Hears b s r
-  hears_framed frame w e h = record { values = h.values ∙ heard_same s frame w e b; replies = h.replies }
+-- the bounds of a whole datagram, one by one
+module _ (s : List ℕ) (go : stops_at s ≡ false) where
+  pub most : total_size s ≤ 1500
+  most = (whole s go).most
 
-  pub hears_arrival : not (eqb (protocol s) 6) ≡ false → (x : Said Step) → x ≡ arrived b s → heard_of r ≡ heard_by b x → segments r.sent ≡ sent_by x → Hears b s r
-  unfolding heard
-  hears_arrival tcp x e values sent = record { values = values ∙ rw (tcp, ← e); replies = rw sent (replies _ _ _ _ _ x (sym e)) }
+  pub there : total_size s ≤ length s
+  there = (whole s go).there
+
+  pub some : 0 < total_size s
+  some = omega (arith, whole s go)

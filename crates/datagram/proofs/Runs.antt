@@ -11,7 +11,8 @@ use Rattle.datagram.specs.Layout.{total_size, stops_at}
 use Rattle.datagram.specs.Program.{Box, heard, answers, output}
 use Rattle.datagram.specs.Theorems.{NeverOutgrows, CutShort, OneOutcome}
 use Rattle.datagram.proofs.Reading.{Whole, whole, goes_on, total_same, whole_same, heard_same, between}
-use Rattle.datagram.proofs.Turns.{by_bool, heard_size, all_of, stopped, turn, start}
+use Rattle.datagram.specs.Promises.{start}
+use Rattle.datagram.proofs.Turns.{by_bool, heard_size, all_of, stopped, turn}
 
 -- ---- length
 
@@ -50,7 +51,7 @@ module _ (n : ℕ) (b : Box) (s : List ℕ) (e : stops_at (take n s) ≡ false) 
   rest_cut : drop (total_size (take n s)) (take n s) ≡ take (n - total_size s) (drop (total_size s) s)
   rest_cut =
       rw (← size)
-      (between (total_size s) n s (omega (arith, size, first_whole.there, length-take n s)) (omega (arith, size, first_whole.there, length-take n s)))
+      (between (total_size s) n s (omega (arith, size, first_whole.there, length-take n s)))
 
   -- so the answer to it is the same
   cut_all : all_of b (take n s) ≡ (heard b s).sent ++ all_of (heard b s).box (take (n - total_size s) (drop (total_size s) s))

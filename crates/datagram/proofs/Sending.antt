@@ -121,6 +121,9 @@ module _ (s : Station) (src dst : ℕ) (octets : List ℕ) (fresh : ℕ) where
   replies (refused n) e = tt
   replies (given step) e = (taken step e).1
 
+  pub replied : (x : Said Step) (gs : List Segment) → x ≡ octets_said s src dst octets fresh → gs ≡ sent_by x → Replies gs
+  replied x gs e f = rw f (replies x (sym e))
+
   -- an answer needs 20 octets, and has 20 more than those
   pub answer_size : (x : Said Step) → octets_said s src dst octets fresh ≡ x → length (datagrams_of (sent_by x)) ≤ 20 + length octets
   unfolding datagrams_of

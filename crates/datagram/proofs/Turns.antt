@@ -7,16 +7,19 @@ use native.Mathlib.Omega.{arith}
 use lib.ListN.{length, take, drop, length-append, length-drop, take-append-drop}
 use lib.Seq.{take_at, drop_at, drop-drop, length-take-le}
 use lib.Dec.{eqb}
+use Rattle.std.specs.Prelude.{Option}
+use Rattle.std.proofs.lemmas.List.{take_rest}
+use Rattle.segment.specs.declared.Segment.{Segment}
 use Rattle.segment.specs.Refusals.{Said, refused, given}
 use Rattle.station.specs.Outcomes.{Step, segments}
 use Rattle.station.proofs.Keeps.{by_test}
-use Rattle.datagram.specs.declared.Hearing.{Hearing}
+use Rattle.datagram.specs.declared.Listener.{Listener}
 use Rattle.datagram.specs.Layout.{header_size, total_size, protocol, carried_by, stops_at}
-use Rattle.datagram.specs.Program.{Box, Heard, listener, datagrams_of, heard_by, heard, answers}
-use Rattle.datagram.specs.Promises.{Writes, box_of, Hears}
+use Rattle.datagram.specs.Program.{Box, Heard, datagrams_of, heard_by, heard, answers}
+use Rattle.datagram.specs.Promises.{start, Writes, box_of, Hears}
 use Rattle.datagram.proofs.Sending.{answer_size}
 use Rattle.datagram.proofs.Reading.{Whole, whole, arrived}
-use Rattle.datagram.proofs.Parts.{lent, back}
+use Rattle.datagram.proofs.Parts.{back}
 
 pub by_bool {ℓ} : {X : Type ℓ} (b : Bool) → (b ≡ true → X) → (b ≡ false → X) → X
 by_bool true f g = f refl
@@ -94,26 +97,18 @@ turn b s e =
 
 -- ---- the loop
 
-abbrev pub start : Box
-start = box_of listener 0
-
 -- the answers so far stand at the output's start, and with those to what is left they are the answers to all
-pub record Halfway (s before after : List ℕ) (b : Box) (at done : ℕ) : Type 0 where
-  pub within : at ≤ length s
-  pub shorter : done ≤ at
-  pub few : b.drawn ≤ at
+pub record Halfway (s before after : List ℕ) (b : Box) (rest : List ℕ) (done : ℕ) : Type 0 where
+  pub shorter : done + length rest ≤ length s
+  pub few : b.drawn + length rest ≤ length s
   pub same : length after ≡ length before
   pub behind : drop done after ≡ drop done before
-  pub answered : all_of start s ≡ take done after ++ all_of b (drop at s)
+  pub answered : all_of start s ≡ take done after ++ all_of b rest
 
-pub halfway : (s before : List ℕ) → Halfway s before before start 0 0
-halfway s before = record { within = omega arith; shorter = omega arith; few = omega arith; same = refl; behind = refl; answered = refl }
-
-module _ (s before after : List ℕ) (b : Box) (at done : ℕ) (h : Halfway s before after b at done) (room : length s ≤ length before)
-    (rest : List ℕ) (left : rest ≡ drop at s) where
+module _ {s before after : List ℕ} {b : Box} {rest : List ℕ} {done : ℕ} (h : Halfway s before after b rest done) (room : length s ≤ length before) where
   pub finished : stops_at rest ≡ true → Writes (all_of start s) before after done
   finished e =
-      let none : all_of b (drop at s) ≡ [] = rw left at (stopped (length rest) b rest e) in
+      let none : all_of b rest ≡ [] = stopped (length rest) b rest e in
       let all : all_of start s ≡ take done after = h.answered ∙ rw none (append-nil (take done after)) in
       let size : length (take done after) ≡ done = length-take-le done after (omega arith) in
       record {
@@ -121,39 +116,36 @@ module _ (s before after : List ℕ) (b : Box) (at done : ℕ) (h : Halfway s be
         left = sym (rw (all, size, ← h.behind) (take-append-drop done after));
       }
 
-  module _ (go : stops_at rest ≡ false) (r : Hearing) (hears : Hears b rest r) where
+  module _ (go : stops_at rest ≡ false) (l : Listener) (sent : Option Segment) (hears : Hears b rest l sent) where
     -- the answer fits into its datagram, and the datagram into what is left
-    pub sizes : (length (datagrams_of (segments r.sent)) ≤ total_size rest) × (at + total_size rest ≤ length s) × (0 < total_size rest)
+    pub sizes : (length (datagrams_of (segments sent)) ≤ total_size rest) × (total_size rest ≤ length rest) × (0 < total_size rest)
     sizes =
         let w = whole rest go in
-        let e : datagrams_of (segments r.sent) ≡ (heard b rest).sent = ap (λ (x : Heard). x.sent) hears.values in
-        (omega (arith, ap length e, heard_size b rest w), omega (arith, ap length left, length-drop at s), omega arith)
+        let e : datagrams_of (segments sent) ≡ (heard b rest).sent = ap (λ (x : Heard). x.sent) hears.values in
+        (omega (arith, ap length e, heard_size b rest w), omega arith, omega arith)
 
-    pub fits : length (datagrams_of (segments r.sent)) ≤ length (take (length after - done) (drop done after))
-    fits = rw (lent done after) (omega (arith, sizes, length-drop done after))
+    pub fits : length (datagrams_of (segments sent)) ≤ length (take (length after - done) (drop done after))
+    fits = rw (take_rest after done) (omega (arith, sizes, length-drop done after))
 
-    pub onward : (ys : List ℕ) (n : ℕ) → Writes (datagrams_of (segments r.sent)) (take (length after - done) (drop done after)) ys n
-        → Halfway s before (take done after ++ (ys ++ drop (length after - done) (drop done after))) (box_of r.station r.drawn) (at + total_size rest) (done + n)
+    pub onward : (ys : List ℕ) (n : ℕ) → Writes (datagrams_of (segments sent)) (take (length after - done) (drop done after)) ys n
+        → Halfway s before (take done after ++ (ys ++ drop (length after - done) (drop done after))) (box_of l) (drop (total_size rest) rest) (done + n)
     onward ys n w =
-        let o = datagrams_of (segments r.sent) in
+        let o = datagrams_of (segments sent) in
         let m = done + length o in
-        let tail : ys ≡ o ++ drop m after = rw (lent done after, drop-drop) at w.left in
+        let tail : ys ≡ o ++ drop m after = rw (take_rest after done, drop-drop) at w.left in
         let all = back done after ys ∙ ap (λ (x : List ℕ). take done after ++ x) tail ∙ sym (append_assoc (take done after) o (drop m after)) in
         let size : length (take done after ++ o) ≡ m = rw length-append (rw (length-take-le done after (omega (arith, sizes)))) in
-        let box : box_of r.station r.drawn ≡ (heard b rest).box = ap (λ (x : Heard). x.box) hears.values in
-        let sent : o ≡ (heard b rest).sent = ap (λ (x : Heard). x.sent) hears.values in
-        let next : drop (total_size rest) rest ≡ drop (at + total_size rest) s = ap (drop (total_size rest)) left ∙ drop-drop (total_size rest) at s in
-        let d = whole rest go in
+        let box : box_of l ≡ (heard b rest).box = ap (λ (x : Heard). x.box) hears.values in
+        let same_sent : o ≡ (heard b rest).sent = ap (λ (x : Heard). x.sent) hears.values in
+        let left = length-drop (total_size rest) rest in
         rw (all, w.count) (record {
-          within = omega (arith, sizes);
           shorter = omega (arith, sizes);
           few = omega (arith, sizes, ap (λ (x : Box). x.drawn) box, heard_drawn b rest);
           same = rw (length-append, size, length-drop) (omega (arith, sizes));
           behind = drop_at (take done after ++ o) (drop m after) m size ∙ sym (drop-drop (length o) done after) ∙ ap (drop (length o)) h.behind ∙ drop-drop (length o) done before;
           answered =
               h.answered
-              ∙ ap (λ (x : List ℕ). take done after ++ all_of b x) (sym left)
               ∙ ap (λ (x : List ℕ). take done after ++ x) (turn b rest go)
-              ∙ rw (← sent, ← box, next) (sym (append_assoc (take done after) o _))
-              ∙ ap (λ (x : List ℕ). x ++ all_of (box_of r.station r.drawn) (drop (at + total_size rest) s)) (sym (take_at (take done after ++ o) (drop m after) m size));
+              ∙ rw (← same_sent, ← box) (sym (append_assoc (take done after) o _))
+              ∙ ap (λ (x : List ℕ). x ++ all_of (box_of l) (drop (total_size rest) rest)) (sym (take_at (take done after ++ o) (drop m after) m size));
         })

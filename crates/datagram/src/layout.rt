@@ -1,7 +1,7 @@
 // IPv4 datagrams: the parts of one that is read, and the writing of a segment's (01, "The program";
 // RFC 791, 3.1).
 ghost use Rattle.std.specs.Prelude.{◌≡◌, ◌≤◌, false, ◌++◌, length, drop};
-ghost use Rattle.datagram.specs.Layout.{version, header_size, total_size, protocol, source_address, destination_address, stops_at, header_with, header_checksum, datagram_of};
+ghost use Rattle.datagram.specs.Layout.{version, header_size, total_size, protocol, source_address, destination_address, carried_by, stops_at, header_with, header_checksum, datagram_of};
 
 use segment::Segment;
 
@@ -13,7 +13,7 @@ fn version(s: &[u8]) -> u32
     segment::octet(s, 0) / 16
 }
 
-pub(crate) fn header_size(s: &[u8]) -> usize
+fn header_size(s: &[u8]) -> usize
     ensures { result ≡ header_size s.now }
 {
     (segment::octet(s, 0) % 16 * 4) as usize
@@ -22,7 +22,7 @@ pub(crate) fn header_size(s: &[u8]) -> usize
 pub(crate) fn total_size(s: &[u8]) -> usize
     ensures { result ≡ total_size s.now }
 {
-    segment::get16(s, 2) as usize
+    usize::from(segment::get16(s, 2))
 }
 
 pub(crate) fn protocol(s: &[u8]) -> u32
@@ -43,51 +43,44 @@ pub(crate) fn destination_address(s: &[u8]) -> u32
     segment::get32(s, 16)
 }
 
+// What stands behind the header, up to the total length.
+#[tactic(auto, using(crate::proofs::Reading::whole, crate::proofs::Reading::carried_part))]
+pub(crate) fn carried_by(s: &[u8]) -> &[u8]
+    requires { stops_at s.now ≡ false }
+    ensures { result.now ≡ carried_by s.now }
+{
+    &s[header_size(s)..total_size(s)]
+}
+
+#[tactic(auto, unfolding(crate::specs::Layout::stops_at))]
 pub(crate) fn stops_at(s: &[u8]) -> bool
     ensures { result ≡ stops_at s.now }
 {
     let header = header_size(s);
     let total = total_size(s);
-    !(version(s) == 4) | (header < 20) | (total < header) | (1500 < total) | (s.len() < total)
+    version(s) != 4 || header < 20 || total < header || 1500 < total || s.len() < total
 }
 
 // ---- the datagram of a segment
 
 // The header with a checksum.
+#[tactic(auto, using(crate::proofs::Parts::two_octets, crate::proofs::Parts::four_octets))]
 fn header_with(g: Segment, check: u16) -> [u8; 20]
     ensures { result ≡ header_with g check }
 {
-    let src = g.src;
-    let dst = g.dst;
+    let [c1, c0] = check.to_be_bytes();
+    let [s3, s2, s1, s0] = g.src.to_be_bytes();
+    let [d3, d2, d1, d0] = g.dst.to_be_bytes();
     [
-        0x45,
-        0,
-        0,
-        40,
-        0,
-        0,
-        0x40,
-        0,
-        64,
-        6,
-        (check / 256) as u8,
-        (check % 256) as u8,
-        (src / 16777216) as u8,
-        (src / 65536 % 256) as u8,
-        (src / 256 % 256) as u8,
-        (src % 256) as u8,
-        (dst / 16777216) as u8,
-        (dst / 65536 % 256) as u8,
-        (dst / 256 % 256) as u8,
-        (dst % 256) as u8,
+        0x45, 0, 0, 40, 0, 0, 0x40, 0, 64, 6, c1, c0, s3, s2, s1, s0, d3, d2, d1, d0,
     ]
 }
 
+#[tactic(auto, unfolding(crate::specs::Layout::header_checksum))]
 fn header_checksum(g: Segment) -> u16
     ensures { result ≡ header_checksum g }
 {
-    let unchecked = header_with(g, 0);
-    65535 - checksum::add_words(0, &unchecked)
+    65535 - checksum::add_words(0, &header_with(g, 0))
 }
 
 // The first 40 octets of the output and no others.
@@ -96,8 +89,7 @@ pub(crate) fn write(g: Segment, out: &mut [u8])
     requires fin_value { g.header.control.fin ≡ false }
     ensures { out.new ≡ datagram_of g ++ drop 40 out.old }
 {
-    let ip = header_with(g, header_checksum(g));
-    out[..20].copy_from_slice(&ip);
-    let header = g.header;
-    segment::write(g.src, g.dst, header, &mut out[20..]);
+    out[..20].copy_from_slice(&header_with(g, header_checksum(g)));
+    // Not refused: FIN is off, and there is room.
+    let _ = segment::write(g.src, g.dst, g.header, &mut out[20..]);
 }

@@ -4,181 +4,151 @@
 
 mod layout;
 
-ghost use Rattle.std.specs.Prelude.{◌≡◌, ◌≤◌, ◌<◌, false, length, take, if◌then◌else◌};
+ghost use Rattle.std.specs.Prelude.{◌≡◌, ◌≤◌, ◌<◌, false, length};
 ghost use Rattle.station.specs.Outcomes.{segments, said};
 ghost use Rattle.datagram.specs.Layout.{stops_at};
-ghost use Rattle.datagram.specs.Program.{listener, datagrams_of, heard_by, answers, output};
-ghost use Rattle.datagram.specs.Promises.{box_of, heard_of, sent_by, Writes, Replies, Hears};
+ghost use Rattle.datagram.specs.Program.{datagrams_of, heard_by, answers, output};
+ghost use Rattle.datagram.specs.Promises.{start, box_of, heard_of, sent_by, Writes, Replies, Hears};
 ghost use Rattle.datagram.specs.Theorems.{NeverOutgrows, CutShort, OneOutcome, Example};
 
-use station::{Outcome, Sent, State, Station};
+use segment::{Refusal, Segment};
+use station::{Done, State, Station};
 
-// What a datagram leads to: the station, how many numbers were drawn, and what is sent.
-#[derive(Clone, Copy)]
-struct Hearing {
+// The station, and how many numbers were drawn.
+#[derive(Drop)]
+struct Listener {
     station: Station,
     drawn: u32,
-    sent: Sent,
 }
 
-fn listener() -> Station
-    ensures { result ≡ listener }
-{
-    Station {
-        state: State::Listen,
-        passive: true,
-        iss: 0,
-        una: 0,
-        nxt: 0,
-        irs: 0,
-        rcvnxt: 0,
-        rcvwnd: 4096,
-        own: 0x0a000002,
-        ownport: 2000,
-        peer: 0x0a000001,
-        peerport: 1024,
-    }
-}
-
-// A number that was drawn counts.
-fn count(drawn: bool) -> u32
-    ensures { (result ≡ (if drawn then 1 else 0)) × (result ≤ 1) }
-{
-    if drawn { 1 } else { 0 }
-}
-
-// "A refused datagram .. is skipped".
-fn heard_by(station: Station, drawn: u32, outcome: Outcome) -> Hearing
-    requires { drawn < 65535 }
-    ensures result_value { heard_of result ≡ heard_by (box_of station drawn) (said outcome) }
-    ensures sent_value { segments result.sent ≡ sent_by (said outcome) }
-{
-    match outcome {
-        Outcome::Refused(refusal) => Hearing {
-            station,
-            drawn,
-            sent: Sent::Nothing,
-        },
-        Outcome::Taken(done) => {
-            let next = done.next;
-            let sent = done.sent;
-            Hearing {
-                station: next,
-                drawn: drawn + count(done.drawn),
-                sent,
-            }
+impl Listener {
+    fn new() -> Listener
+        ensures { box_of result ≡ start }
+    {
+        Listener {
+            station: Station {
+                state: State::Listen,
+                passive: true,
+                iss: 0,
+                una: 0,
+                nxt: 0,
+                irs: 0,
+                rcvnxt: 0,
+                rcvwnd: 4096,
+                own: 0x0a000002,
+                ownport: 2000,
+                peer: 0x0a000001,
+                peerport: 1024,
+            },
+            drawn: 0,
         }
     }
-}
 
-// One datagram, at the start of the octets.
-fn heard(station: Station, drawn: u32, s: &[u8]) -> Hearing
-    requires drawn_bound { drawn < 65535 }
-    requires s_value { stops_at s.now ≡ false }
-    ensures { Hears (box_of station drawn) s.now result }
-{
-    let other = !(layout::protocol(s) == 6);
-    if other {
-        return Hearing {
-            station,
-            drawn,
-            sent: Sent::Nothing,
-        };
+    // "A refused datagram .. is skipped".
+    #[tactic(auto, unfolding(crate::specs::Program::heard_by, crate::specs::Program::datagrams_of))]
+    fn heard_by(&mut self, outcome: Result<Done, Refusal>) -> Option<Segment>
+        requires { self.old.drawn < 65535 }
+        ensures values { heard_of self.new result ≡ heard_by (box_of self.old) (said outcome) }
+        ensures sent { segments result ≡ sent_by (said outcome) }
+    {
+        let done = outcome.ok()?;
+        self.station = done.next;
+        self.drawn += u32::from(done.drawn);
+        done.sent
     }
-    let from = layout::header_size(s);
-    let to = layout::total_size(s);
-    let fresh = 65536 * (drawn + 1);
-    let outcome = station.arrive_octets(
-        layout::source_address(s),
-        layout::destination_address(s),
-        &s[from..to],
-        fresh,
-    );
-    heard_by(station, drawn, outcome)
-}
 
-// One datagram, filled into a cleared frame and read from there.
-fn heard_in_frame(station: Station, drawn: u32, s: &[u8]) -> Hearing
-    requires drawn_bound { drawn < 65535 }
-    requires s_value { stops_at s.now ≡ false }
-    ensures { Hears (box_of station drawn) s.now result }
-{
-    let size = layout::total_size(s);
-    let mut frame = [0u8; 1500];
-    frame[..size].copy_from_slice(&s[..size]);
-    heard(station, drawn, &frame)
+    // One datagram, at the start of the octets: what is sent.
+    #[tactic(auto, unfolding(crate::specs::Program::heard, crate::specs::Program::datagrams_of), using(crate::proofs::Sending::replied))]
+    fn heard(&mut self, s: &[u8]) -> Option<Segment>
+        requires drawn_bound { self.old.drawn < 65535 }
+        requires s_value { stops_at s.now ≡ false }
+        ensures { Hears (box_of self.old) s.now self.new result }
+    {
+        if layout::protocol(s) != 6 {
+            return None;
+        }
+        let outcome = self.station.arrive_octets(
+            layout::source_address(s),
+            layout::destination_address(s),
+            layout::carried_by(s),
+            65536 * (self.drawn + 1),
+        );
+        self.heard_by(outcome)
+    }
+
+    // One datagram, filled into a cleared frame and read from there.
+    #[tactic(auto, using(crate::proofs::Parts::taken, crate::proofs::Reading::most, crate::proofs::Reading::there, crate::proofs::Reading::stops_framed, crate::proofs::Reading::heard_framed))]
+    fn heard_in_frame(&mut self, s: &[u8]) -> Option<Segment>
+        requires drawn_bound { self.old.drawn < 65535 }
+        requires s_value { stops_at s.now ≡ false }
+        ensures { Hears (box_of self.old) s.now self.new result }
+    {
+        let size = layout::total_size(s);
+        let mut frame = [0u8; 1500];
+        frame[..size].copy_from_slice(&s[..size]);
+        self.heard(&frame)
+    }
 }
 
 // The datagrams of what is sent, at the start of the output; how many octets they have.
-fn write_sent(sent: Sent, out: &mut [u8]) -> usize
+#[tactic(auto, unfolding(crate::specs::Program::datagrams_of), using(crate::proofs::Sending::one_written, crate::proofs::Sending::one_sent, crate::proofs::Sending::datagram_size))]
+fn write_sent(sent: Option<Segment>, out: &mut [u8]) -> usize
     requires sent_in_bounds { length (datagrams_of (segments sent)) ≤ length out.old }
     requires replies { Replies (segments sent) }
     ensures { Writes (datagrams_of (segments sent)) out.old out.new result }
 {
-    match sent {
-        Sent::Nothing => 0,
-        Sent::One(g) => {
-            layout::write(g, out);
-            40
-        }
-    }
+    let Some(g) = sent else {
+        return 0;
+    };
+    layout::write(g, out);
+    40
 }
 
 // Datagrams back to back, until it stops.
+#[tactic(auto, using(crate::proofs::Reading::there, crate::proofs::Reading::some))]
 fn answers(input: &[u8], out: &mut [u8]) -> usize
     requires input_len_bound { length input.now ≤ 65535 }
     requires input_in_bounds { length input.now ≤ length out.old }
-    ensures { Writes (answers (length input.now) (box_of listener 0) input.now) out.old out.new result }
+    ensures { Writes (answers (length input.now) start input.now) out.old out.new result }
 {
-    let mut station = listener();
-    let mut drawn: u32 = 0;
-    let mut at: usize = 0;
-    let mut done: usize = 0;
-    loop {
-        let rest = &input[at..];
-        if layout::stops_at(rest) {
-            return done;
-        }
-        let hearing = heard_in_frame(station, drawn, rest);
-        station = hearing.station;
-        drawn = hearing.drawn;
-        let sent = hearing.sent;
+    let mut listener = Listener::new();
+    let mut rest = input;
+    // A count, since it is what is given.
+    let mut done = 0;
+    while !layout::stops_at(rest) {
+        let sent = listener.heard_in_frame(rest);
         done += write_sent(sent, &mut out[done..]);
-        at += layout::total_size(rest);
+        rest = &rest[layout::total_size(rest)..];
     }
+    done
 }
 
-// "It reads up to 65,535 octets".
-fn size_read(input: &[u8]) -> usize
-    ensures { result ≡ length (take 65535 input.now) }
-{
-    if input.len() < 65535 {
-        return input.len();
-    }
-    65535
-}
-
-// The whole program. No output is too short: the answers never outgrow the input.
+// The whole program: "It reads up to 65,535 octets". No output is too short, since the answers never
+// outgrow the input.
+#[tactic(auto, using(crate::proofs::Parts::read_of))]
 pub fn run(input: &[u8], out: &mut [u8; 65535]) -> usize
     ensures { Writes (output input.now) out.old out.new result }
 {
-    let size = size_read(input);
+    let size = input.len().min(65535);
     answers(&input[..size], out)
 }
 
 // ---- theorems, each promised by a function that does nothing
 
 // The output never outgrows the input that is read.
+#[tactic(auto, using(crate::proofs::Runs::never_outgrows))]
 pub fn never_outgrows()
     ensures { NeverOutgrows }
 {}
 
 // An input cut anywhere gives a beginning of the output.
+#[tactic(auto, using(crate::proofs::Runs::cut_short))]
 pub fn cut_short()
     ensures { CutShort }
 {}
 
 // The contract of `run` leaves one outcome.
+#[tactic(auto, using(crate::proofs::Runs::one_outcome))]
 pub fn one_outcome()
     ensures { OneOutcome }
 {}

@@ -5,15 +5,12 @@ use native.Mathlib.Omega.{arith}
 use Rattle.datagram.proofs.Parts.{both_written}
 use Rattle.datagram.proofs.layout.write.Goals as goal
 
-pub slice_bounds-copy_from_slice-end-2 : goal.slice_bounds-copy_from_slice-end-2
-slice_bounds-copy_from_slice-end-2 c = sym (length-take-le 20 c.args.out.now (omega arith))
-
 pub copy_from_slice-requires : goal.copy_from_slice-requires
 copy_from_slice-requires c =
-    length-take-le 20 c.args.out.now (omega arith) ∙ sym (ap length c.header_with-ip.ensures)
+    length-take-le 20 c.args.out.now (omega arith) ∙ sym (ap length c.header_with.ensures)
 
 pub returns : goal.returns
 returns c =
     both_written c.args.g c.args.out.now _ _ c.requires.fin_value c.requires.in_bounds
-    (rw (c.copy_from_slice.ensures.after, c.header_with-ip.ensures, c.header_checksum.ensures))
+    (rw (c.copy_from_slice.ensures.after, c.header_with.ensures, c.header_checksum.ensures))
     c.write.ensures.output
