@@ -1,22 +1,27 @@
 -- What is told of an event and of a list in octets. Assumes nothing.
 use Prim.Native.Nat.{ℕ}
-use mathlib.Core.Path.{◌≡◌, refl, ap, ◌∙◌}
-use mathlib.Core.Bool.{Bool, true, false}
-use mathlib.Core.List.{List}
+use mathlib.Core.Path.{◌≡◌, refl, sym, ap, ◌∙◌}
+use mathlib.Core.Bool.{Bool, true, false, not}
+use borrow.Author.Tests.{not-false}
+use mathlib.Core.List.{List, [], ◌∷◌}
 use lib.ListN.{take}
 use lib.Dec.{ltb}
 use Rattle.std.specs.Prelude.{Result, Ok, Err}
 use Rattle.segment.specs.declared.Refusal.{Refusal}
-use Rattle.segment.specs.Refusals.{Said, refused, given, said}
+use Rattle.segment.specs.Refusals.{Said, refused, given, said, refuse◌when◌, first_of}
+use Rattle.segment.proofs.Tests.{AllOff, all_off}
 use Rattle.model.specs.declared.Model.{Model}
 use Rattle.model.specs.declared.Event.{Event}
 use Rattle.model.specs.declared.Totals.{Totals}
 use Rattle.model.specs.declared.Told.{Told}
 use Rattle.model.specs.Step.{Moved, Reply, said_answer, reply_of, model_after, Tells}
 use Rattle.model.specs.Play.{Run, play_said, model_played, totals_of, Reports, Plays}
-use Rattle.events.specs.Lists.{count_of, events_at, list_at}
+use Rattle.events.specs.Lists.{is_list, count_of, events_at, list_at}
 use Rattle.events.proofs.Listed.{listed_whole}
 use Rattle.telling.specs.Told.{report_of, answer_of}
+use Rattle.numbers.specs.declared.Model.{Model as Numbers}
+use Rattle.numbers.specs.Links.{both_known, model_of}
+use Rattle.boundary.specs.Player.{octets_played}
 
 -- ---- a report and the model beside it are the run that is promised
 
@@ -65,3 +70,13 @@ module _ (m : Model) (s : List ℕ) where
       → report_of after r ≡ play_said m (count_of s) (events_at (count_of s) s)
   played_whole n es after r e k h =
       reported m (play_said m (count_of s) (take (count_of s) (list_at s))) after r (rw (e, k) at h) ∙ played_by (ltb 4096 (count_of s)) refl
+
+-- a list in octets that is played from the model in numbers
+pub played_told : (m : Numbers) (s : List ℕ) (n : ℕ) (es : List Event) (before after : Model) (r : Result Totals Refusal) → is_list s ≡ true
+    → given before ≡ first_of (refuse 1 when not (both_known m) ∷ []) (model_of m) → es ≡ list_at s → n ≡ count_of s → Plays before n (take n es) after r
+    → report_of after r ≡ octets_played m s
+unfolding AllOff
+played_told m s n es before after r l k e c h =
+    let o = all_off (refuse 1 when not (both_known m) ∷ []) (model_of m) before (sym k) in
+    let known : both_known m ≡ true = not-false (both_known m) o.0.0 in
+    simp (l, known, o.1) (played_whole before s n es after r e c h)

@@ -9,23 +9,33 @@ ghost use Rattle.checksum.specs.Sum.{checksum_of};
 ghost use Rattle.datagram.specs.Program.{output};
 ghost use Rattle.datagram.specs.Promises.{Writes};
 ghost use Rattle.station.specs.declared.Event.TheVariants as Event;
-ghost use Rattle.numbers.specs.Numbers.{segment_of};
-ghost use Rattle.boundary.specs.Calls.{event_told, Arrives};
+ghost use Rattle.numbers.specs.Numbers.{station_of, segment_of};
+ghost use Rattle.station.specs.Outcomes.{said};
+ghost use Rattle.station.specs.Events.{event_said};
+ghost use Rattle.station.specs.Arrival.{octets_said};
+ghost use Rattle.boundary.specs.Calls.{if_known, event_told, Arrives};
 ghost use Rattle.boundary.specs.Headers.{read_told, Written};
 ghost use Rattle.boundary.specs.Player.{step_told, play_told};
 ghost use Rattle.boundary.specs.Theorems.{OneOutcome};
 
 use numbers::{Header, Model, Record, Segment};
-use station::Station;
+use segment::Refusal;
+use station::{Done, Station};
 use telling::{Played, Reading, Stepped, Told};
 
 // ---- a station's calls
 
 // One event of a station in numbers.
+fn stepped(r: Record, e: station::Event) -> Result<Done, Refusal>
+    ensures { said result ≡ if_known r (event_said (station_of r) e) }
+{
+    Station::try_from(r)?.step(e)
+}
+
 fn event(r: Record, e: station::Event) -> Told
     ensures { result ≡ event_told r e }
 {
-    telling::told_of(r, Station::try_from(r).and_then(|s| s.step(e)))
+    telling::told_of(r, stepped(r, e))
 }
 
 #[unsafe(no_mangle)]
@@ -73,8 +83,16 @@ pub extern "C" fn tabor_arrive(r: Record, g: Segment, fresh: u32) -> Told
     event(r, station::Event::Arrive(segment::Segment::from(g), fresh))
 }
 
+// Octets arrive at a station in numbers.
+fn arrived(r: Record, src: u32, dst: u32, octets: &[u8], fresh: u32) -> Result<Done, Refusal>
+    ensures { said result ≡ if_known r (octets_said (station_of r) src dst octets.now fresh) }
+{
+    Station::try_from(r)?.arrive_octets(src, dst, octets, fresh)
+}
+
 // Octets arrive; what is sent is written as octets, too. An output below 20 octets is 10, after 1 to 6
 // and whether or not anything is sent.
+#[tactic(auto, using(datagram::proofs::Sending::replies))]
 #[unsafe(no_mangle)]
 pub extern "C" fn tabor_arrive_octets(
     r: Record,
@@ -86,8 +104,7 @@ pub extern "C" fn tabor_arrive_octets(
 ) -> Told
     ensures { Arrives r src dst octets.now fresh out.old out.new result }
 {
-    let outcome = Station::try_from(r).and_then(|s| s.arrive_octets(src, dst, octets, fresh));
-    answering::answered(r, outcome, out)
+    answering::answered(r, arrived(r, src, dst, octets, fresh), out)
 }
 
 // ---- headers
@@ -118,6 +135,7 @@ pub extern "C" fn tabor_checksum(src: u32, dst: u32, octets: &[u8]) -> u16
 // ---- two stations and their links, and the program
 
 // One event in octets. Octets that are no event are 255.
+#[tactic(auto, using(crate::proofs::Reported::answered))]
 #[unsafe(no_mangle)]
 pub extern "C" fn tabor_step(m: Model, octets: &[u8]) -> Stepped
     ensures { result ≡ step_told m octets.now }

@@ -1,8 +1,0 @@
-use Rattle.boundary.proofs.tabor_read.Goals as goal
-
-pub returns : goal.returns
-returns c =
-    simp (
-      ← c.reading_of.ensures,
-      ← c.read-reading.ensures,
-    )
