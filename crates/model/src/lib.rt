@@ -103,11 +103,13 @@ impl Model {
 // ---- theorems, each promised by a function that does nothing
 
 // Each refusal is given exactly when 01's table says, and then the model is unchanged.
+#[tactic(auto, using(crate::proofs::Exact::refusals_exact))]
 pub fn refusals_exact()
     ensures { RefusalsExact }
 {}
 
 // A number is drawn exactly where its station draws it, and is then its ISS.
+#[tactic(auto, using(crate::proofs::Draws::draws_exactly))]
 pub fn draws_exactly()
     ensures { DrawsExactly }
 {}
@@ -118,11 +120,13 @@ pub fn one_outcome()
 {}
 
 // Records of the forms, links within 32 and mirrored endpoints stay so.
+#[tactic(auto, using(crate::proofs::Keeps::keeps_forms))]
 pub fn keeps_forms()
     ensures { KeepsForms }
 {}
 
 // The slots and the count of a link mean the list of its segments.
+#[tactic(auto, using(crate::proofs::Means::links_mean))]
 pub fn links_mean()
     ensures { LinksMean }
 {}

@@ -292,11 +292,13 @@ impl From<model::Model> for Model {
 // ---- theorems, promised by functions that do nothing
 
 // What crosses comes back as it was.
+#[tactic(auto, using(crate::proofs::Crossing::crosses_back))]
 pub fn crosses_back()
     ensures { CrossesBack }
 {}
 
 // Which number is which, by hand.
+#[tactic(auto, using(crate::proofs::Crossing::examples))]
 pub fn examples()
     ensures { Examples }
 {}

@@ -299,16 +299,19 @@ pub fn write(src: u32, dst: u32, h: Header, out: &mut [u8]) -> Result<(), Refusa
 // ---- theorems, each promised by a function that does nothing
 
 // Reading what was written gives all fields again.
+#[tactic(auto, using(crate::proofs::RoundTrip::reads_back))]
 pub fn reads_back()
     ensures { ReadsBack }
 {}
 
 // Writing what was read gives the same octets.
+#[tactic(auto, using(crate::proofs::RoundTrip::writes_back))]
 pub fn writes_back()
     ensures { WritesBack }
 {}
 
 // Each refusal is given exactly when 01's table says, in its order, and for no other cause.
+#[tactic(auto, using(crate::proofs::Exact::refusals_exact))]
 pub fn refusals_exact()
     ensures { RefusalsExact }
 {}

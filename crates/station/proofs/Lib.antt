@@ -1,4 +1,3 @@
-pub mod Answers
 pub mod Uniform
 pub mod Keeps
 pub mod Exact

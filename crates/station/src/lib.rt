@@ -190,11 +190,13 @@ impl Station {
 // ---- theorems, each promised by a function that does nothing
 
 // A record of the forms stays one.
+#[tactic(auto, using(crate::proofs::Keeps::keeps_forms))]
 pub fn keeps_forms()
     ensures { KeepsForms }
 {}
 
 // Each refusal is given exactly when 01's table says, and then the record is unchanged.
+#[tactic(auto, using(crate::proofs::Exact::refusals_exact))]
 pub fn refusals_exact()
     ensures { RefusalsExact }
 {}
@@ -205,6 +207,7 @@ pub fn one_outcome()
 {}
 
 // A number is drawn exactly by an open that is taken and by a LISTEN that takes a SYN.
+#[tactic(auto, using(crate::proofs::Draws::draws_exactly))]
 pub fn draws_exactly()
     ensures { DrawsExactly }
 {}
