@@ -18,6 +18,7 @@ fn read_full<R: Read>(reader: &mut R, octets: &mut [u8]) -> io::Result<usize>
     ensures err { OnErr result
         ((n : ℕ) × Consumes (R.remaining reader.old) (R.remaining reader.new) (take n octets.new)) }
 {
+    // Counted by hand: `read_exact` refuses a short input, and `io::copy` does not say what it wrote.
     let mut done = 0;
     while done < octets.len() {
         let n = reader.read(&mut octets[done..])?;

@@ -121,6 +121,7 @@ module _ (s : Station) (src dst : ℕ) (octets : List ℕ) (fresh : ℕ) where
   replies (refused n) e = tt
   replies (given step) e = (taken step e).1
 
+  -- the same of segments that are those of an answer
   pub replied : (x : Said Step) (gs : List Segment) → x ≡ octets_said s src dst octets fresh → gs ≡ sent_by x → Replies gs
   replied x gs e f = rw f (replies x (sym e))
 

@@ -5,14 +5,14 @@
 mod layout;
 
 ghost use Rattle.std.specs.Prelude.{◌≡◌, ◌≤◌, ◌<◌, false, length};
-ghost use Rattle.station.specs.Outcomes.{segments, said};
+ghost use Rattle.station.specs.Outcomes.{segments};
 ghost use Rattle.datagram.specs.Layout.{stops_at};
-ghost use Rattle.datagram.specs.Program.{datagrams_of, heard_by, answers, output};
-ghost use Rattle.datagram.specs.Promises.{start, box_of, heard_of, sent_by, Writes, Replies, Hears};
+ghost use Rattle.datagram.specs.Program.{datagrams_of, answers, output};
+ghost use Rattle.datagram.specs.Promises.{start, box_of, Writes, Replies, Hears};
 ghost use Rattle.datagram.specs.Theorems.{NeverOutgrows, CutShort, OneOutcome, Example};
 
-use segment::{Refusal, Segment};
-use station::{Done, State, Station};
+use segment::Segment;
+use station::{State, Station};
 
 // The station, and how many numbers were drawn.
 #[derive(Drop)]
@@ -44,21 +44,8 @@ impl Listener {
         }
     }
 
-    // "A refused datagram .. is skipped".
-    #[tactic(auto, unfolding(crate::specs::Program::heard_by, crate::specs::Program::datagrams_of))]
-    fn heard_by(&mut self, outcome: Result<Done, Refusal>) -> Option<Segment>
-        requires { self.old.drawn < 65535 }
-        ensures values { heard_of self.new result ≡ heard_by (box_of self.old) (said outcome) }
-        ensures sent { segments result ≡ sent_by (said outcome) }
-    {
-        let done = outcome.ok()?;
-        self.station = done.next;
-        self.drawn += u32::from(done.drawn);
-        done.sent
-    }
-
     // One datagram, at the start of the octets: what is sent.
-    #[tactic(auto, unfolding(crate::specs::Program::heard, crate::specs::Program::datagrams_of), using(crate::proofs::Sending::replied))]
+    #[tactic(auto, unfolding(crate::specs::Program::heard, crate::specs::Program::heard_by, crate::specs::Program::datagrams_of), using(crate::proofs::Sending::replied))]
     fn heard(&mut self, s: &[u8]) -> Option<Segment>
         requires drawn_bound { self.old.drawn < 65535 }
         requires s_value { stops_at s.now ≡ false }
@@ -73,7 +60,11 @@ impl Listener {
             layout::carried_by(s),
             65536 * (self.drawn + 1),
         );
-        self.heard_by(outcome)
+        // "A refused datagram .. is skipped".
+        let done = outcome.ok()?;
+        self.station = done.next;
+        self.drawn += u32::from(done.drawn);
+        done.sent
     }
 
     // One datagram, filled into a cleared frame and read from there.
