@@ -2,48 +2,39 @@
 #![tactic(auto)]
 
 ghost use Rattle.std.specs.Prelude.{◌≡◌};
-ghost use Rattle.events.specs.Lists.{side_of, event_of, event_at, names_event, is_event, is_list, count_of, within, list_at};
+ghost use Rattle.events.specs.Lists.{side_of, event_of, event_at, names_event, is_event, is_list, count_of, list_at};
 ghost use Rattle.events.specs.Theorems.{CrossesBack, Examples};
 
 use model::{Event, Side};
 
+#[tactic(auto, unfolding(crate::specs::Lists::side_of))]
 fn side_of(n: u32) -> Side
     ensures { result ≡ side_of n }
 {
-    if n == 0 {
-        return Side::A;
+    match n {
+        0 => Side::A,
+        _ => Side::B,
     }
-    Side::B
 }
 
+#[tactic(auto, unfolding(crate::specs::Lists::event_of))]
 fn event_of(kind: u32, side: Side, place: usize, number: u32) -> Event
     ensures { result ≡ event_of kind side place number }
 {
-    if kind == 0 {
-        return Event::Open(side, number);
+    match kind {
+        0 => Event::Open(side, number),
+        1 => Event::Listen(side),
+        2 => Event::Abort(side),
+        3 => Event::Resend(side),
+        4 => Event::PowerCut(side),
+        5 => Event::Deliver(side, place, number),
+        6 => Event::Copy(side, place),
+        _ => Event::Lose(side, place),
     }
-    if kind == 1 {
-        return Event::Listen(side);
-    }
-    if kind == 2 {
-        return Event::Abort(side);
-    }
-    if kind == 3 {
-        return Event::Resend(side);
-    }
-    if kind == 4 {
-        return Event::PowerCut(side);
-    }
-    if kind == 5 {
-        return Event::Deliver(side, place, number);
-    }
-    if kind == 6 {
-        return Event::Copy(side, place);
-    }
-    Event::Lose(side, place)
 }
 
 // The event at the start of the octets, whatever they are.
+#[tactic(auto, unfolding(crate::specs::Lists::event_at))]
 pub fn event_at(s: &[u8]) -> Event
     ensures { result ≡ event_at s.now }
 {
@@ -56,6 +47,7 @@ pub fn event_at(s: &[u8]) -> Event
 }
 
 // Kind and side at the start of the octets name one.
+#[tactic(auto, unfolding(crate::specs::Lists::names_event))]
 fn names_event(s: &[u8]) -> bool
     ensures { result ≡ names_event s.now }
 {
@@ -63,6 +55,7 @@ fn names_event(s: &[u8]) -> bool
 }
 
 // The octets are one event.
+#[tactic(auto, unfolding(crate::specs::Lists::is_event))]
 pub fn is_event(s: &[u8]) -> bool
     ensures { result ≡ is_event s.now }
 {
@@ -77,41 +70,24 @@ pub fn count(s: &[u8]) -> usize
 }
 
 // The octets are a list of events.
+#[tactic(auto, unfolding(crate::specs::Lists::is_list))]
 pub fn is_list(s: &[u8]) -> bool
     ensures { result ≡ is_list s.now }
 {
-    if !(s.len() % 10 == 0) {
-        return false;
-    }
-    let n = count(s);
-    let mut i: usize = 0;
-    while i < n {
-        if !names_event(&s[i * 10..]) {
-            return false;
-        }
-        i += 1;
-    }
-    true
-}
-
-// The player's limit, or less.
-fn within(n: usize) -> usize
-    ensures { result ≡ within n }
-{
-    if 4096 < n { 4096 } else { n }
+    let (events, rest) = s.as_chunks::<10>();
+    rest.is_empty() && events.iter().all(|e| names_event(e))
 }
 
 // The events in the octets, as far as the player's limit; each place behind them listens at A.
+#[tactic(auto, using(crate::proofs::Listed::filling))]
 pub fn list(s: &[u8]) -> [Event; 4096]
     ensures { result ≡ list_at s.now }
 {
-    let n = within(count(s));
+    let (chunks, _) = s.as_chunks::<10>();
+    let n = chunks.len().min(4096);
     let mut events = [Event::Listen(Side::A); 4096];
-    let mut i: usize = 0;
-    while i < n {
-        let e = event_at(&s[i * 10..]);
-        events[i] = e;
-        i += 1;
+    for (i, octets) in chunks[..n].iter().enumerate() {
+        events[i] = event_at(octets);
     }
     events
 }
@@ -119,11 +95,13 @@ pub fn list(s: &[u8]) -> [Event; 4096]
 // ---- theorems, promised by functions that do nothing
 
 // What crosses comes back as it was.
+#[tactic(auto, using(crate::proofs::Crossing::crosses_back))]
 pub fn crosses_back()
     ensures { CrossesBack }
 {}
 
 // Which number is which, by hand.
+#[tactic(auto, using(crate::proofs::Crossing::examples))]
 pub fn examples()
     ensures { Examples }
 {}
