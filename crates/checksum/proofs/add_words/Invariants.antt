@@ -5,5 +5,5 @@ use Rattle.checksum.specs.Sum.{carried}
 use Rattle.checksum.proofs.add_words.Given as goal
 
 -- the sum of the words so far
-abbrev pub invariant-loop-pair : goal.invariant-loop-pair
-invariant-loop-pair l = l.sum ≡ carried (l.start + sum_by (from_be_bytes w16) (take l.pair-index l.pairs))
+abbrev pub invariant-loop-high : goal.invariant-loop-high
+invariant-loop-high l = l.sum ≡ carried (l.start + sum_by (from_be_bytes w16) (take l.high-index l.pairs))
