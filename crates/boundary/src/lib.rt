@@ -160,10 +160,11 @@ pub extern "C" fn tabor_play(m: Model, octets: &[u8]) -> Played
     if !events::is_list(octets) {
         return telling::not_played(m, 255);
     }
+    let list = events::list(octets);
     match model::Model::try_from(m) {
         Err(why) => telling::not_played(m, why.number()),
         Ok(mut after) => {
-            let report = after.play(&events::list(octets), events::count(octets));
+            let report = after.play(&list, events::count(octets));
             telling::played_of(m, after, report)
         }
     }

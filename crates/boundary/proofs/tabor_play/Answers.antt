@@ -8,4 +8,4 @@ pub returns-in-Ok : goal.returns-in-Ok
 returns-in-Ok c =
     let list = sym c.is_list.ensures ∙ c.if-not-is_list.false in
     let model = ap said (sym c.in-Ok.is) ∙ c.try_from.ensures in
-    c.played_of.ensures ∙ ap (played_of _) (played_told _ _ _ _ _ _ _ list model c.list.ensures c.count.ensures c.play-report.ensures)
+    c.played_of.ensures ∙ ap (played_of _) (played_told _ _ _ _ _ _ _ list model c.list-list.ensures c.count.ensures c.play-report.ensures)
