@@ -38,6 +38,7 @@ fn event(r: Record, e: station::Event) -> Told
     telling::told_of(r, stepped(r, e))
 }
 
+// C calls each event by a name of its own.
 #[unsafe(no_mangle)]
 pub extern "C" fn tabor_open(r: Record, n: u32) -> Told
     ensures { result ≡ event_told r (Event.Open n) }

@@ -7,6 +7,7 @@ ghost use Rattle.events.specs.Theorems.{CrossesBack, Examples};
 
 use model::{Event, Side};
 
+// Each number has a side and a kind, as the definitions have it: C gives any, and `names_event` tells.
 #[tactic(auto, unfolding(crate::specs::Lists::side_of))]
 fn side_of(n: u32) -> Side
     ensures { result ≡ side_of n }
@@ -33,7 +34,7 @@ fn event_of(kind: u32, side: Side, place: usize, number: u32) -> Event
     }
 }
 
-// The event at the start of the octets, whatever they are.
+// The event at the start of the octets, whatever they are: no Option, since this promise is of all octets.
 #[tactic(auto, unfolding(crate::specs::Lists::event_at))]
 pub fn event_at(s: &[u8]) -> Event
     ensures { result ≡ event_at s.now }
@@ -78,7 +79,8 @@ pub fn is_list(s: &[u8]) -> bool
     rest.is_empty() && events.iter().all(|e| names_event(e))
 }
 
-// The events in the octets, as far as the player's limit; each place behind them listens at A.
+// The events in the octets, as far as the player's limit; each place behind them listens at A. An array, with
+// `count` beside it: memory is fixed, and a longer list is refused by its count.
 #[tactic(auto, using(crate::proofs::Listed::filling))]
 pub fn list(s: &[u8]) -> [Event; 4096]
     ensures { result ≡ list_at s.now }

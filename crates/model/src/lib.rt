@@ -21,7 +21,7 @@ pub enum Side {
     B,
 }
 
-// A link: the first count slots hold segments, in the order sent.
+// A link: the first count slots hold segments, in the order sent. 01 names this form: an array and a count.
 #[derive(Clone, Copy, Debug, PartialEq, Eq)]
 pub struct Link {
     pub slots: [Segment; 32],

@@ -10,6 +10,9 @@ ghost use Rattle.numbers.specs.Theorems.{CrossesBack, Examples};
 use segment::Refusal;
 use station::{State, Station};
 
+// The structs of this file are laid out for `tabor.h`, each beside the crates' own type and not one generic type
+// with it.
+
 // A station's record in numbers. State: 0 CLOSED, 1 LISTEN, 2 SYN-SENT, 3 SYN-RECEIVED,
 // 4 ESTABLISHED. The mark "opened passively": 0 no, 1 yes.
 #[repr(C)]
@@ -80,6 +83,7 @@ pub fn known(r: Record) -> bool
     (r.state < 5) & (r.passive < 2)
 }
 
+// Each number has a state, as the definition has it: C gives any, and `known` tells.
 #[tactic(auto, unfolding(crate::specs::Numbers::state_of))]
 fn state_of(n: u8) -> State
     ensures { result ≡ state_of n }
@@ -93,7 +97,7 @@ fn state_of(n: u8) -> State
     }
 }
 
-// The station of a record, whatever its numbers.
+// The station of a record, whatever its numbers: promised of all, so it stands beside `try_from`.
 #[tactic(auto, unfolding(crate::specs::Numbers::station_of))]
 pub fn station_of(r: Record) -> Station
     ensures { result ≡ station_of r }
@@ -248,7 +252,7 @@ pub fn both_known(m: Model) -> bool
     known(m.a) & known(m.b)
 }
 
-// The model of numbers, whatever they are.
+// The model of numbers, whatever they are: promised of all, so it stands beside `try_from`.
 #[tactic(auto, unfolding(crate::specs::Links::model_of))]
 pub fn model_of(m: Model) -> model::Model
     ensures { result ≡ model_of m }

@@ -135,6 +135,7 @@ pub fn control_at(x: u32) -> Control
     }
 }
 
+// A choice, as the definition has it, and no product with `u8::from(on)`.
 fn weigh(on: bool, w: u8) -> u8
     ensures { (result ≡ weight on w) × (result ≤ w) }
 {

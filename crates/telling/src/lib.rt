@@ -11,6 +11,9 @@ use numbers::{Header, Model, Record, Segment};
 use segment::Refusal;
 use station::Done;
 
+// The structs of this file are C's, three of them with other fields; so each has a refusal and an answer of its
+// own, and a refusal is a number: 255 is none of 01's.
+
 // What a call tells. A refusal has 01's number, 0 for none, and then the record that came in, nothing
 // sent and nothing drawn. Where nothing is sent the segment is zero.
 #[repr(C)]
