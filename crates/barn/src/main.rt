@@ -18,7 +18,8 @@ fn read_full<R: Read>(reader: &mut R, octets: &mut [u8]) -> io::Result<usize>
     ensures err { OnErr result
         ((n : ℕ) × Consumes (R.remaining reader.old) (R.remaining reader.new) (take n octets.new)) }
 {
-    // Counted by hand: `read_exact` refuses a short input, and `io::copy` does not say what it wrote.
+    // Counted by hand: input comes in pieces. `read_exact` refuses a short one, and `io::copy` promises nothing of what
+    // came before an error, which clause `err` does.
     let mut done = 0;
     while done < octets.len() {
         let n = reader.read(&mut octets[done..])?;

@@ -9,8 +9,8 @@ use segment::{Refusal, Segment};
 use station::Done;
 use telling::Told;
 
-// What is sent, at the output's start. `Replies` is a premise and no part of station's `Done`, whose theorem speaks
-// of every one.
+// What is sent, at the output's start. `Replies` is a premise here, in `answered` and in datagram: station's
+// `Done` is public and its theorem speaks of each, so it cannot have it as an invariant.
 fn write_sent(sent: Option<Segment>, out: &mut [u8])
     requires in_bounds { 20 ≤ length out.old }
     requires replies { Replies (segments sent) }

@@ -23,6 +23,9 @@ use segment::Refusal;
 use station::{Done, Station};
 use telling::{Played, Reading, Stepped, Told};
 
+// Octets that are no event and no list of events: none of 01's numbers, `TABOR_NO_LIST` in `tabor.h`.
+const NO_LIST: u8 = 255;
+
 // ---- a station's calls
 
 // One event of a station in numbers.
@@ -142,7 +145,7 @@ pub extern "C" fn tabor_step(m: Model, octets: &[u8]) -> Stepped
     ensures { result ≡ step_told m octets.now }
 {
     if !events::is_event(octets) {
-        return telling::not_stepped(m, 255);
+        return telling::not_stepped(m, NO_LIST);
     }
     match model::Model::try_from(m) {
         Err(why) => telling::not_stepped(m, why.number()),
@@ -159,7 +162,7 @@ pub extern "C" fn tabor_play(m: Model, octets: &[u8]) -> Played
     ensures { result ≡ play_told m octets.now }
 {
     if !events::is_list(octets) {
-        return telling::not_played(m, 255);
+        return telling::not_played(m, NO_LIST);
     }
     let list = events::list(octets);
     match model::Model::try_from(m) {

@@ -7,7 +7,7 @@ ghost use Rattle.events.specs.Theorems.{CrossesBack, Examples};
 
 use model::{Event, Side};
 
-// Each number has a side and a kind, as the definitions have it: C gives any, and `names_event` tells.
+// Each number has a side and a kind, as `event_at` promises of all octets; `names_event` tells which name one.
 #[tactic(auto, unfolding(crate::specs::Lists::side_of))]
 fn side_of(n: u32) -> Side
     ensures { result ≡ side_of n }
@@ -70,7 +70,7 @@ pub fn count(s: &[u8]) -> usize
     s.len() / 10
 }
 
-// The octets are a list of events.
+// The octets are a list of events: a test beside `list`, which is promised of all octets.
 #[tactic(auto, unfolding(crate::specs::Lists::is_list))]
 pub fn is_list(s: &[u8]) -> bool
     ensures { result ≡ is_list s.now }
@@ -88,6 +88,7 @@ pub fn list(s: &[u8]) -> [Event; 4096]
     let (chunks, _) = s.as_chunks::<10>();
     let n = chunks.len().min(4096);
     let mut events = [Event::Listen(Side::A); 4096];
+    // By place: after `iter_mut` a proof knows nothing of the elements.
     for (i, octets) in chunks[..n].iter().enumerate() {
         events[i] = event_at(octets);
     }

@@ -87,7 +87,8 @@ impl Model {
     }
 
     // The first n of a list of events, one after another. Refusals 1, 12, and then nothing is played.
-    // An array with a count, since memory is fixed: a longer list is refused by its count alone.
+    // An array with a count and no slice: `tabor_play` holds 4,096 events of a list of any length, and a longer one is
+    // refused by its count.
     #[tactic(auto, unfolding(crate::specs::Play::play_said))]
     pub fn play(&mut self, events: &[Event; 4096], n: usize) -> Result<Totals, Refusal>
         ensures { Plays self.old n (take n events.now) self.new result }
@@ -96,7 +97,7 @@ impl Model {
         if 4096 < n {
             return Err(Refusal::Events);
         }
-        Ok(self.run(events, n))
+        Ok(self.run(&events[..n]))
     }
 }
 

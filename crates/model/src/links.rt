@@ -1,5 +1,5 @@
 // Links (01, "Two stations and their links").
-ghost use Rattle.std.specs.Prelude.{◌≡◌, ◌<◌, ◌≤◌};
+ghost use Rattle.std.specs.Prelude.{◌≡◌, ◌<◌, ◌≤◌, Some, None, if◌then◌else◌};
 ghost use Rattle.model.specs.Links.{blank, full, has_place, at_place, pushed, removed};
 
 use crate::Link;
@@ -21,19 +21,17 @@ impl Link {
         32 <= self.count
     }
 
-    #[tactic(auto, unfolding(crate::specs::Links::has_place))]
-    pub(crate) fn has_place(&self, n: usize) -> bool
-        ensures { result ≡ has_place self.now n }
+    // The segment at place n, if there is such a place.
+    #[tactic(auto, unfolding(crate::specs::Links::has_place, crate::specs::Links::at_place))]
+    pub(crate) fn place(&self, n: usize) -> Option<Segment>
+        requires { self.now.count ≤ 32 }
+        ensures { result ≡ (if has_place self.now n then Some (at_place self.now n) else None) }
     {
-        n < self.count
-    }
-
-    #[tactic(auto, unfolding(crate::specs::Links::at_place))]
-    pub(crate) fn at_place(&self, n: usize) -> Segment
-        requires { n < 32 }
-        ensures { result ≡ at_place self.now n }
-    {
-        self.slots[n]
+        if n < self.count {
+            Some(self.slots[n])
+        } else {
+            None
+        }
     }
 
     #[tactic(auto, unfolding(crate::specs::Links::pushed))]

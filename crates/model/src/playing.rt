@@ -1,5 +1,5 @@
 // The player (01, "Two stations and their links").
-ghost use Rattle.std.specs.Prelude.{◌≡◌, ◌<◌, ◌≤◌, take, Ok};
+ghost use Rattle.std.specs.Prelude.{◌≡◌, ◌<◌, ◌≤◌, length, Ok};
 ghost use Rattle.segment.specs.Refusals.{given};
 ghost use Rattle.model.specs.Step.{said_answer};
 ghost use Rattle.model.specs.Play.{tallied, run, begun, Reports};
@@ -28,14 +28,14 @@ impl Totals {
 }
 
 impl Model {
-    // The first n events, one after another.
+    // The events, one after another.
     #[tactic(auto, using(crate::proofs::Runs::run_start))]
-    pub(crate) fn run(&mut self, events: &[Event; 4096], n: usize) -> Totals
-        requires { n ≤ 4096 }
-        ensures { Reports self.old (given (run (begun self.old) (take n events.now))) self.new (Ok result) }
+    pub(crate) fn run(&mut self, events: &[Event]) -> Totals
+        requires { length events.now ≤ 4096 }
+        ensures { Reports self.old (given (run (begun self.old) events.now)) self.new (Ok result) }
     {
         let mut totals = Totals::default();
-        for e in &events[..n] {
+        for e in events {
             totals = totals.tallied(self.step(*e));
         }
         totals

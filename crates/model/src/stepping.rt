@@ -10,6 +10,7 @@ use segment::{Refusal, Segment};
 use station::Station;
 
 impl Side {
+    // A and B, and the links towards them, by a match each: what C lays out has them by name.
     fn peer(self) -> Side
         ensures { result ≡ peer_of self }
     {
@@ -156,10 +157,7 @@ impl Sound {
         ensures { said_as moved_of result ≡ delivered x self.now.model n fresh }
     {
         let l = self.model.toward(x);
-        if !l.has_place(n) {
-            return Err(Refusal::Place);
-        }
-        let g = l.at_place(n);
+        let g = l.place(n).ok_or(Refusal::Place)?;
         let rest = self.model.with_toward(x, l.removed(n));
         self.model.moved(x, rest, station::Event::Arrive(g, fresh))
     }
@@ -169,13 +167,11 @@ impl Sound {
         ensures { said_as moved_of result ≡ copied x self.now.model n }
     {
         let l = self.model.toward(x);
-        if !l.has_place(n) {
-            return Err(Refusal::Place);
-        }
+        let g = l.place(n).ok_or(Refusal::Place)?;
         if l.is_full() {
             return Err(Refusal::CopyFull);
         }
-        Ok(self.model.relinked(x, l.pushed(l.at_place(n))))
+        Ok(self.model.relinked(x, l.pushed(g)))
     }
 
     #[tactic(auto, using(crate::proofs::Laws::within), unfolding(crate::specs::Step::lost, crate::specs::Links::has_place, crate::specs::Links::full))]
@@ -183,9 +179,7 @@ impl Sound {
         ensures { said_as moved_of result ≡ lost x self.now.model n }
     {
         let l = self.model.toward(x);
-        if !l.has_place(n) {
-            return Err(Refusal::Place);
-        }
+        l.place(n).ok_or(Refusal::Place)?;
         Ok(self.model.relinked(x, l.removed(n)))
     }
 

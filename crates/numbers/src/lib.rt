@@ -16,7 +16,7 @@ use station::{State, Station};
 // A station's record in numbers. State: 0 CLOSED, 1 LISTEN, 2 SYN-SENT, 3 SYN-RECEIVED,
 // 4 ESTABLISHED. The mark "opened passively": 0 no, 1 yes.
 #[repr(C)]
-#[derive(Clone, Copy, Debug, Default, PartialEq, Eq)]
+#[derive(Clone, Copy, Debug, PartialEq, Eq)]
 pub struct Record {
     pub iss: u32,
     pub una: u32,
@@ -83,7 +83,7 @@ pub fn known(r: Record) -> bool
     (r.state < 5) & (r.passive < 2)
 }
 
-// Each number has a state, as the definition has it: C gives any, and `known` tells.
+// Each number has a state, as `station_of` promises of all records; `known` tells which name one.
 #[tactic(auto, unfolding(crate::specs::Numbers::state_of))]
 fn state_of(n: u8) -> State
     ensures { result ≡ state_of n }

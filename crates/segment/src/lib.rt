@@ -91,13 +91,17 @@ impl Refusal {
 // ---- numbers in octets
 
 // The octet at a place, 0 past the end.
+fn octet_at(s: &[u8], at: usize) -> u8
+    ensures { result ≡ get_or s.now at 0 }
+{
+    s.get(at).copied().unwrap_or(0)
+}
+
+// The same, as a number to reckon with.
 pub fn octet(s: &[u8], at: usize) -> u32
     ensures { (result ≡ get_or s.now at 0) × (result < 256) }
 {
-    match s.get(at) {
-        Some(x) => u32::from(*x),
-        None => 0,
-    }
+    u32::from(octet_at(s, at))
 }
 
 // The 16-bit number at a place, high octet first. A place among the first 65,536 is enough for every
@@ -105,16 +109,21 @@ pub fn octet(s: &[u8], at: usize) -> u32
 pub fn get16(s: &[u8], at: u16) -> u16
     ensures { result ≡ at16 s.now at }
 {
-    let from = at as usize;
-    (octet(s, from) * 256 + octet(s, from + 1)) as u16
+    let at = usize::from(at);
+    u16::from_be_bytes([octet_at(s, at), octet_at(s, at + 1)])
 }
 
 // The 32-bit number at a place, high octet first.
 pub fn get32(s: &[u8], at: u8) -> u32
     ensures { result ≡ at32 s.now at }
 {
-    let from = at as u16;
-    get16(s, from) as u32 * 65536 + get16(s, from + 2) as u32
+    let at = usize::from(at);
+    u32::from_be_bytes([
+        octet_at(s, at),
+        octet_at(s, at + 1),
+        octet_at(s, at + 2),
+        octet_at(s, at + 3),
+    ])
 }
 
 // ---- control bits
@@ -135,7 +144,7 @@ pub fn control_at(x: u32) -> Control
     }
 }
 
-// A choice, as the definition has it, and no product with `u8::from(on)`.
+// The weight of a bit that is on; `u8::from(on) * w` is no plainer.
 fn weigh(on: bool, w: u8) -> u8
     ensures { (result ≡ weight on w) × (result ≤ w) }
 {

@@ -159,8 +159,7 @@ impl Station {
             State::Closed => self.at_closed(g),
             State::Listen => self.at_listen(g, fresh),
             State::SynSent => self.at_syn_sent(g),
-            State::SynReceived => self.at_synchronized(g),
-            State::Established => self.at_synchronized(g),
+            State::SynReceived | State::Established => self.at_synchronized(g),
         }
     }
 

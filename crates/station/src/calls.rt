@@ -10,7 +10,7 @@ impl Station {
     pub(crate) fn may_open(self) -> bool
         ensures { result ≡ may_open self }
     {
-        (self.state == State::Closed) | (self.state == State::Listen)
+        matches!(self.state, State::Closed | State::Listen)
     }
 
     #[tactic(auto, unfolding(crate::specs::Calls::open_step))]
@@ -26,7 +26,7 @@ impl Station {
         ensures { step_of result ≡ abort_step self }
     {
         let next = self.closed();
-        if (self.state == State::SynReceived) | (self.state == State::Established) {
+        if matches!(self.state, State::SynReceived | State::Established) {
             return Done::sending(next, self.rst(self.nxt));
         }
         Done::quiet(next)
@@ -36,7 +36,7 @@ impl Station {
     pub(crate) fn may_resend(self) -> bool
         ensures { result ≡ may_resend self }
     {
-        (self.state == State::SynSent) | (self.state == State::SynReceived)
+        matches!(self.state, State::SynSent | State::SynReceived)
     }
 
     #[tactic(auto, unfolding(crate::specs::Calls::resend_step))]

@@ -118,9 +118,8 @@ impl Done {
         ensures { step_of result ≡ drawing next g }
     {
         Done {
-            next,
-            sent: Some(g),
             drawn: true,
+            ..Done::sending(next, g)
         }
     }
 }

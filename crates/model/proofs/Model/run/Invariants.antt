@@ -1,5 +1,5 @@
 use mathlib.Core.Path.{◌≡◌}
-use lib.ListN.{take, drop}
+use lib.ListN.{drop}
 use Rattle.model.specs.Play.{run, begun}
 use Rattle.model.proofs.Runs.{at, Within}
 use Rattle.model.proofs.Model.run.Given as goal
@@ -7,4 +7,4 @@ use Rattle.model.proofs.Model.run.Given as goal
 -- The loop's invariant, by the work that is left: the events from this one on lead from here to where all lead from the beginning.
 abbrev pub invariant-loop-e : goal.invariant-loop-e
 invariant-loop-e l =
-    Within l.totals l.e-index × (run (at l.self l.totals) (drop l.e-index (take l.n l.events)) ≡ run (begun l.initial.self) (take l.n l.events))
+    Within l.totals l.e-index × (run (at l.self l.totals) (drop l.e-index l.events) ≡ run (begun l.initial.self) l.events)
