@@ -116,6 +116,10 @@ module _ {s before after : List ℕ} {b : Box} {rest : List ℕ} {done : ℕ} (h
         left = sym (rw (all, size, ← h.behind) (take-append-drop done after));
       }
 
+  -- the k-th number drawn is 65,536 times k, and k stays below 65,536
+  pub numbered : stops_at rest ≡ false → length s ≤ 65535 → b.drawn < 65535
+  numbered go most = omega (arith, whole rest go)
+
   module _ (go : stops_at rest ≡ false) (l : Listener) (sent : Option Segment) (hears : Hears b rest l sent) where
     -- the answer fits into its datagram, and the datagram into what is left
     pub sizes : (length (datagrams_of (segments sent)) ≤ total_size rest) × (total_size rest ≤ length rest) × (0 < total_size rest)

@@ -1,11 +1,11 @@
 // IPv4 datagrams: the parts of one that is read, and the writing of a segment's (01, "The program";
 // RFC 791, 3.1).
-ghost use Rattle.std.specs.Prelude.{◌≡◌, ◌≤◌, false, ◌++◌, length, drop};
+ghost use Rattle.std.specs.Prelude.{◌≡◌, ◌≤◌, true, false, ◌++◌, length, drop, MatchOption};
 ghost use Rattle.datagram.specs.Layout.{version, header_size, total_size, protocol, source_address, destination_address, carried_by, stops_at, header_with, header_checksum, datagram_of};
 
 use segment::Segment;
 
-// ---- the parts of a datagram
+// ---- where it stops
 
 fn version(s: &[u8]) -> u32
     ensures { result ≡ version s.now }
@@ -19,46 +19,72 @@ fn header_size(s: &[u8]) -> usize
     (segment::octet(s, 0) % 16 * 4) as usize
 }
 
-pub(crate) fn total_size(s: &[u8]) -> usize
+fn total_size(s: &[u8]) -> usize
     ensures { result ≡ total_size s.now }
 {
     usize::from(segment::get16(s, 2))
 }
 
-pub(crate) fn protocol(s: &[u8]) -> u32
-    ensures { result ≡ protocol s.now }
-{
-    segment::octet(s, 9)
-}
-
-pub(crate) fn source_address(s: &[u8]) -> u32
-    ensures { result ≡ source_address s.now }
-{
-    segment::get32(s, 12)
-}
-
-pub(crate) fn destination_address(s: &[u8]) -> u32
-    ensures { result ≡ destination_address s.now }
-{
-    segment::get32(s, 16)
-}
-
-// What stands behind the header, up to the total length.
-#[tactic(auto, using(crate::proofs::Reading::whole, crate::proofs::Reading::carried_part))]
-pub(crate) fn carried_by(s: &[u8]) -> &[u8]
-    requires { stops_at s.now ≡ false }
-    ensures { result.now ≡ carried_by s.now }
-{
-    &s[header_size(s)..total_size(s)]
-}
-
 #[tactic(auto, unfolding(crate::specs::Layout::stops_at))]
-pub(crate) fn stops_at(s: &[u8]) -> bool
+fn stops_at(s: &[u8]) -> bool
     ensures { result ≡ stops_at s.now }
 {
     let header = header_size(s);
     let total = total_size(s);
     version(s) != 4 || header < 20 || total < header || 1500 < total || s.len() < total
+}
+
+// ---- the parts of a datagram
+
+// Octets that begin with a whole datagram.
+#[derive(Clone, Copy)]
+pub(crate) struct Datagram<'a> {
+    pub(crate) octets: &'a [u8],
+    ghost whole: { stops_at octets.now ≡ false },
+}
+
+impl<'a> Datagram<'a> {
+    // None where it stops.
+    pub(crate) fn at_start(octets: &'a [u8]) -> Option<Datagram<'a>>
+        ensures { MatchOption result (stops_at octets.now ≡ true) (λ (d : Datagram). d.octets.now ≡ octets.now) }
+    {
+        if stops_at(octets) {
+            return None;
+        }
+        Some(Datagram { octets })
+    }
+
+    pub(crate) fn total_size(&self) -> usize
+        ensures { result ≡ total_size self.now.octets.now }
+    {
+        total_size(self.octets)
+    }
+
+    pub(crate) fn protocol(&self) -> u32
+        ensures { result ≡ protocol self.now.octets.now }
+    {
+        segment::octet(self.octets, 9)
+    }
+
+    pub(crate) fn source_address(&self) -> u32
+        ensures { result ≡ source_address self.now.octets.now }
+    {
+        segment::get32(self.octets, 12)
+    }
+
+    pub(crate) fn destination_address(&self) -> u32
+        ensures { result ≡ destination_address self.now.octets.now }
+    {
+        segment::get32(self.octets, 16)
+    }
+
+    // What stands behind the header, up to the total length.
+    #[tactic(auto, using(crate::proofs::Reading::whole, crate::proofs::Reading::carried_part))]
+    pub(crate) fn carried_by(&self) -> &'a [u8]
+        ensures { result.now ≡ carried_by self.now.octets.now }
+    {
+        &self.octets[header_size(self.octets)..self.total_size()]
+    }
 }
 
 // ---- the datagram of a segment

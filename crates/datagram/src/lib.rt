@@ -4,13 +4,13 @@
 
 mod layout;
 
-ghost use Rattle.std.specs.Prelude.{◌≡◌, ◌≤◌, ◌<◌, false, length};
+ghost use Rattle.std.specs.Prelude.{◌≡◌, ◌≤◌, ◌<◌, length};
 ghost use Rattle.station.specs.Outcomes.{segments};
-ghost use Rattle.datagram.specs.Layout.{stops_at};
 ghost use Rattle.datagram.specs.Program.{datagrams_of, answers, output};
 ghost use Rattle.datagram.specs.Promises.{start, box_of, Writes, Replies, Hears};
 ghost use Rattle.datagram.specs.Theorems.{NeverOutgrows, CutShort, OneOutcome, Example};
 
+use layout::Datagram;
 use segment::Segment;
 use station::{State, Station};
 
@@ -44,20 +44,19 @@ impl Listener {
         }
     }
 
-    // One datagram, at the start of the octets: what is sent.
+    // One datagram: what is sent.
     #[tactic(auto, unfolding(crate::specs::Program::heard, crate::specs::Program::heard_by, crate::specs::Program::datagrams_of), using(crate::proofs::Sending::replied))]
-    fn heard(&mut self, s: &[u8]) -> Option<Segment>
+    fn heard(&mut self, datagram: Datagram) -> Option<Segment>
         requires drawn_bound { self.old.drawn < 65535 }
-        requires s_value { stops_at s.now ≡ false }
-        ensures { Hears (box_of self.old) s.now self.new result }
+        ensures { Hears (box_of self.old) datagram.entry.octets.now self.new result }
     {
-        if layout::protocol(s) != 6 {
+        if datagram.protocol() != 6 {
             return None;
         }
         let outcome = self.station.arrive_octets(
-            layout::source_address(s),
-            layout::destination_address(s),
-            layout::carried_by(s),
+            datagram.source_address(),
+            datagram.destination_address(),
+            datagram.carried_by(),
             65536 * (self.drawn + 1),
         );
         // "A refused datagram .. is skipped".
@@ -69,15 +68,14 @@ impl Listener {
 
     // One datagram, filled into a cleared frame and read from there.
     #[tactic(auto, using(crate::proofs::Parts::taken, crate::proofs::Reading::most, crate::proofs::Reading::there, crate::proofs::Reading::stops_framed, crate::proofs::Reading::heard_framed))]
-    fn heard_in_frame(&mut self, s: &[u8]) -> Option<Segment>
+    fn heard_in_frame(&mut self, datagram: Datagram) -> Option<Segment>
         requires drawn_bound { self.old.drawn < 65535 }
-        requires s_value { stops_at s.now ≡ false }
-        ensures { Hears (box_of self.old) s.now self.new result }
+        ensures { Hears (box_of self.old) datagram.entry.octets.now self.new result }
     {
-        let size = layout::total_size(s);
+        let size = datagram.total_size();
         let mut frame = [0u8; 1500];
-        frame[..size].copy_from_slice(&s[..size]);
-        self.heard(&frame)
+        frame[..size].copy_from_slice(&datagram.octets[..size]);
+        self.heard(Datagram { octets: &frame })
     }
 }
 
@@ -96,7 +94,7 @@ fn write_sent(sent: Option<Segment>, out: &mut [u8]) -> usize
 }
 
 // Datagrams back to back, until it stops.
-#[tactic(auto, using(crate::proofs::Reading::there, crate::proofs::Reading::some))]
+#[tactic(auto, using(crate::proofs::Reading::there, crate::proofs::Reading::some, crate::proofs::Turns::numbered))]
 fn answers(input: &[u8], out: &mut [u8]) -> usize
     requires input_len_bound { length input.now ≤ 65535 }
     requires input_in_bounds { length input.now ≤ length out.old }
@@ -106,10 +104,10 @@ fn answers(input: &[u8], out: &mut [u8]) -> usize
     let mut rest = input;
     // A count, since it is what is given.
     let mut done = 0;
-    while !layout::stops_at(rest) {
-        let sent = listener.heard_in_frame(rest);
+    while let Some(datagram) = Datagram::at_start(rest) {
+        let sent = listener.heard_in_frame(datagram);
         done += write_sent(sent, &mut out[done..]);
-        rest = &rest[layout::total_size(rest)..];
+        rest = &rest[datagram.total_size()..];
     }
     done
 }
