@@ -14,7 +14,7 @@ use Rattle.station.specs.declared.Station.{Station}
 use Rattle.station.specs.Forms.{place}
 use Rattle.model.specs.declared.Link.{Link as ModelLink}
 use Rattle.model.specs.declared.Model.{Model as ModelModel}
-use Rattle.model.proofs.Laws.{and_both}
+use Rattle.std.proofs.lemmas.Bool.{and_parts}
 use Rattle.numbers.specs.Numbers.{bit_of, state_of, known, station_of, record_of, header_of, header_numbers, segment_of, segment_numbers}
 use Rattle.numbers.specs.Links.{link_of, link_numbers, both_known, model_of, model_numbers}
 use Rattle.numbers.specs.Theorems.{Controls, CrossesBack, Examples}
@@ -68,7 +68,7 @@ station_again s = (named s.state s.passive, rw (state_again s.state, mark_again 
 numbers_again : (c : Record) → known c ≡ true → record_of (station_of c) ≡ c
 unfolding known station_of record_of
 numbers_again c e =
-    let k = and_both (ltb c.state 5) (ltb c.passive 2) e in
+    let k = and_parts (ltb c.state 5) (ltb c.passive 2) e in
     rw (place_again c.state (ltb-true c.state 5 k.0), bit_again c.passive (ltb-true c.passive 2 k.1))
 
 segment_again : (g : SegmentSegment) → segment_of (segment_numbers g) ≡ g
@@ -109,7 +109,7 @@ model_again m =
 models_again : (c : Model) → both_known c ≡ true → Controls c.toa.slots → Controls c.tob.slots → model_numbers (model_of c) ≡ c
 unfolding both_known model_of model_numbers
 models_again c e o p =
-    let k = and_both (known c.a) (known c.b) e in
+    let k = and_parts (known c.a) (known c.b) e in
     rw (numbers_again c.a k.0, numbers_again c.b k.1, links_again c.toa o, links_again c.tob p)
 
 pub crosses_back : CrossesBack
