@@ -3,10 +3,11 @@ use Prim.Native.Nat.{ℕ, zero, suc, ◌-◌, ◌≤◌}
 use mathlib.Core.Path.{◌≡◌, sym, ap, ◌∙◌}
 use mathlib.Core.Bool.{true, false}
 use mathlib.Core.List.{List, ◌++◌, append_assoc}
+use mathlib.Core.Logic.{⊎_elim}
 use native.Mathlib.Omega.{arith}
 use lib.ListN.{length, take, drop, length-append, length-take, length-drop}
 use lib.Seq.{take-take, take_all}
-use Rattle.checksum.proofs.Sums.{split}
+use Rattle.std.proofs.lemmas.Bool.{cases_lt}
 use Rattle.datagram.specs.Layout.{total_size, stops_at}
 use Rattle.datagram.specs.Program.{Box, heard, answers, output}
 use Rattle.datagram.specs.Theorems.{NeverOutgrows, CutShort, OneOutcome}
@@ -82,9 +83,10 @@ cut (suc most) n b s h =
 
 take_swap : (m n : ℕ) (s : List ℕ) → take m (take n s) ≡ take n (take m s)
 take_swap m n s =
-    split m n
-    (λ h. take-take m n s h ∙ sym (take_all n (take m s) (omega (arith, length-take m s))))
+    ⊎_elim
     (λ h. take_all m (take n s) (omega (arith, length-take n s)) ∙ sym (take-take n m s (omega arith)))
+    (λ h. take-take m n s h ∙ sym (take_all n (take m s) (omega (arith, length-take m s))))
+    (cases_lt n m)
 
 pub cut_short : CutShort
 unfolding output

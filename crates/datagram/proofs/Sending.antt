@@ -6,13 +6,14 @@ use mathlib.Core.List.{List, [], ◌∷◌, ◌++◌, append-nil}
 use native.Mathlib.Omega.{arith}
 use lib.ListN.{length, drop}
 use lib.Dec.{eqb, ltb}
-use borrow.Author.Tests.{ltb-false}
 use Rattle.seq.specs.Seq.{plus, order}
 use Rattle.segment.specs.declared.Segment.{Segment}
 use Rattle.segment.specs.Refusals.{Said, refused, given}
 use Rattle.segment.specs.Read.{segment_at, field_tests}
 use Rattle.segment.specs.Write.{made}
-use Rattle.segment.proofs.Tests.{AllOff, all_off, neither}
+use Rattle.segment.proofs.Tests.{AllOff, all_off}
+use Rattle.std.proofs.Common.{rules}
+use Rattle.std.proofs.lemmas.Bool.Decides.{nat_tests}
 use Rattle.station.specs.declared.State.{State}
 use Rattle.station.specs.declared.State.TheVariants.{Closed, Listen, SynSent, SynReceived, Established}
 use Rattle.station.specs.declared.Station.{Station}
@@ -21,7 +22,6 @@ use Rattle.station.specs.Sent.{has_ack, has_rst, has_syn, seg_ack, bits, sends, 
 use Rattle.station.specs.Outcomes.{Step}
 use Rattle.station.specs.Calls.{bad_record}
 use Rattle.station.specs.Arrival.{at_closed, at_listen, wrong_ack, syn_at_syn_sent, at_syn_sent, in_window, outside, ack_at_syn_received, is_later, ack_at_established, at_synchronized, arrival_at, endpoint_tests, octets_said}
-use Rattle.station.proofs.Keeps.{by_test}
 use Rattle.datagram.specs.Layout.{datagram_of}
 use Rattle.datagram.specs.Program.{datagrams_of}
 use Rattle.datagram.specs.Promises.{Writes, sent_by, Replies}
@@ -49,62 +49,12 @@ one_written g before after e = rw one_sent (record { count = sym (datagram_size 
 
 -- ---- FIN is off in every reply
 
-abbrev FinOff : Segment → Type 0
-FinOff g = g.header.control.fin ≡ false
-
 abbrev Ok : Step → Type 0
 Ok step = Replies step.sent
 
-module _ (s : Station) where
-  syn_ack_off : FinOff (syn_ack_of s)
-  unfolding syn_ack_of sends bits
-  syn_ack_off = refl
-
-  ack_off : FinOff (ack_of s)
-  unfolding ack_of sends bits
-  ack_off = refl
-
-  reset_off : (g : Segment) → FinOff (reply_reset s g)
-  unfolding reply_reset rst_of sends bits
-  reset_off g = by_test FinOff (has_ack g) _ _ refl refl
-
-module _ (s : Station) (g : Segment) where
-  closed_ok : Ok (at_closed s g)
-  unfolding at_closed
-  closed_ok = by_test Ok (has_rst g) _ _ tt (reset_off s g)
-
-  listen_ok : (fresh : ℕ) → Ok (at_listen s g fresh)
-  unfolding at_listen
-  listen_ok fresh =
-      by_test Ok (has_rst g) _ _ tt
-      (by_test Ok (has_ack g) _ _ (reset_off s g)
-      (by_test Ok (has_syn g) _ _ (syn_ack_off _) tt))
-
-  syn_sent_ok : Ok (at_syn_sent s g)
-  unfolding at_syn_sent syn_at_syn_sent
-  syn_sent_ok =
-      by_test Ok (wrong_ack s g) _ _ (by_test Ok (has_rst g) _ _ tt (reset_off s g))
-      (by_test Ok (has_rst g) _ _ (by_test Ok (has_ack g) _ _ tt tt)
-      (by_test Ok (has_syn g) _ _ (by_test Ok (has_ack g) _ _ (ack_off _) (syn_ack_off _)) tt))
-
-  synchronized_ok : Ok (at_synchronized s g)
-  unfolding at_synchronized outside ack_at_syn_received ack_at_established
-  synchronized_ok =
-      by_test Ok (not (in_window s g)) _ _ (by_test Ok (has_rst g) _ _ tt (ack_off s))
-      (by_test Ok (has_rst g) _ _ tt
-      (by_test Ok (has_syn g) _ _ (reset_off s g)
-      (by_test Ok (not (has_ack g)) _ _ tt
-      (by_test Ok (is SynReceived s) _ _
-      (by_test Ok (eqb (seg_ack g) (plus s.iss 1)) _ _ tt (reset_off s g))
-      (by_test Ok (is_later (order (seg_ack g) s.nxt)) _ _ (ack_off s) tt)))))
-
-  arrival_ok : (t : State) (fresh : ℕ) → Ok (arrival_at t s g fresh)
-  unfolding arrival_at
-  arrival_ok Closed fresh = closed_ok
-  arrival_ok Listen fresh = listen_ok fresh
-  arrival_ok SynSent fresh = syn_sent_ok
-  arrival_ok SynReceived fresh = synchronized_ok
-  arrival_ok Established fresh = synchronized_ok
+arrival_ok : (s : Station) (g : Segment) (t : State) (fresh : ℕ) → Ok (arrival_at t s g fresh)
+unfolding arrival_at at_closed at_listen at_syn_sent syn_at_syn_sent at_synchronized outside ack_at_syn_received ack_at_established ack_of syn_ack_of reply_reset rst_of sends bits
+arrival_ok s g t fresh = search rules
 
 -- ---- octets that arrive
 
@@ -114,8 +64,7 @@ module _ (s : Station) (src dst : ℕ) (octets : List ℕ) (fresh : ℕ) where
   unfolding octets_said AllOff field_tests
   taken step e =
       let o = all_off (bad_record s ∷ field_tests src dst octets ++ endpoint_tests s (segment_at src dst octets)) (arrival_at s.state s (segment_at src dst octets) fresh) step e in
-      let size = neither (ltb (length octets) 20) (ltb 65515 (length octets)) o.0.1.0 in
-      (ltb-false (length octets) 20 size.0, rw o.1 at (arrival_ok s (segment_at src dst octets) s.state fresh))
+      (grind (arith, nat_tests), rw o.1 at (arrival_ok s (segment_at src dst octets) s.state fresh))
 
   pub replies : (x : Said Step) → octets_said s src dst octets fresh ≡ x → Replies (sent_by x)
   replies (refused n) e = tt

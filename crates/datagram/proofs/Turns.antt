@@ -12,7 +12,8 @@ use Rattle.std.proofs.lemmas.List.{take_rest}
 use Rattle.segment.specs.declared.Segment.{Segment}
 use Rattle.segment.specs.Refusals.{Said, refused, given}
 use Rattle.station.specs.Outcomes.{Step, segments}
-use Rattle.station.proofs.Keeps.{by_test}
+use Rattle.std.proofs.lemmas.Bool.Decides.{nat_tests}
+use Rattle.station.proofs.Keeps.{by_case}
 use Rattle.datagram.specs.declared.Listener.{Listener}
 use Rattle.datagram.specs.Layout.{header_size, total_size, protocol, carried_by, stops_at}
 use Rattle.datagram.specs.Program.{Box, Heard, datagrams_of, heard_by, heard, answers}
@@ -41,16 +42,16 @@ module _ (b : Box) (s : List ℕ) where
     -- an answer is no longer than the datagram that it answers
     pub heard_size : length (heard b s).sent ≤ total_size s
     unfolding heard
-    heard_size = by_test (λ (h : Heard). length h.sent ≤ total_size s) (not (eqb (protocol s) 6)) _ _ (omega arith) (said_size _ refl)
+    heard_size = by_case (λ (h : Heard). length h.sent ≤ total_size s) (not (eqb (protocol s) 6)) (λ e. omega arith) (λ e. said_size _ refl)
 
   said_drawn : (x : Said Step) → (heard_by b x).box.drawn ≤ b.drawn + 1
   unfolding heard_by
   said_drawn (refused n) = omega arith
-  said_drawn (given step) = by_test (λ (n : ℕ). b.drawn + n ≤ b.drawn + 1) step.drawn 1 0 (omega arith) (omega arith)
+  said_drawn (given step) = grind (arith, nat_tests)
 
   pub heard_drawn : (heard b s).box.drawn ≤ b.drawn + 1
   unfolding heard
-  heard_drawn = by_test (λ (h : Heard). h.box.drawn ≤ b.drawn + 1) (not (eqb (protocol s) 6)) _ _ (omega arith) (said_drawn _)
+  heard_drawn = by_case (λ (h : Heard). h.box.drawn ≤ b.drawn + 1) (not (eqb (protocol s) 6)) (λ e. omega arith) (λ e. said_drawn _)
 
 -- ---- all datagrams
 

@@ -5,7 +5,9 @@ use mathlib.Core.List.{List, [], ◌∷◌}
 use mathlib.Core.Logic.{◌↔◌}
 use Rattle.segment.specs.declared.Segment.{Segment}
 use Rattle.segment.specs.Refusals.{Said, refused, given}
-use Rattle.segment.proofs.Tests.{false_true}
+use native.Mathlib.Omega.{arith}
+use Rattle.std.proofs.Common.{rules}
+use Rattle.std.proofs.lemmas.Bool.Decides.{nat_tests}
 use Rattle.station.specs.Outcomes.{Step}
 use Rattle.station.specs.Events.{event_said}
 use Rattle.station.specs.Theorems.{Draws as Call-as-Draws, Offers}
@@ -32,20 +34,15 @@ record Tells (C : Type 0) (H : Model → Type 0) (z : Moved) : Type 0 where
 
 posted_drawn : (x : Side) (m : Model) (gs : List Segment) (drawn : Bool) → (posted x m gs drawn).drawn ≡ drawn
 unfolding posted
-posted_drawn x m [] drawn = refl
-posted_drawn x m (g ∷ gs) drawn = by_case (λ (z : Moved). z.drawn ≡ drawn) (full (toward (peer_of x) m)) (λ e. refl) (λ e. refl)
+posted_drawn x m gs drawn = search rules
 
 posted_station : (x : Side) (m : Model) (gs : List Segment) (drawn : Bool) → station_of x (posted x m gs drawn).model ≡ station_of x m
 unfolding posted
-posted_station x m [] drawn = refl
-posted_station x m (g ∷ gs) drawn =
-    by_case (λ (z : Moved). station_of x z.model ≡ station_of x m) (full (toward (peer_of x) m)) (λ e. refl)
-    (λ e. same_station x (peer_of x) m _)
+posted_station x m gs drawn = search (rules, same_station)
 
 put_station : (x : Side) (m : Model) (s : Station) → station_of x (with_station x m s) ≡ s
 unfolding station_of with_station
-put_station A m s = refl
-put_station B m s = refl
+put_station x m s = search rules
 
 -- ---- a station's call, and the other events
 
@@ -69,7 +66,7 @@ call_draws x m rest call = said_draws x rest (station_of x m) call _ refl
 
 -- an event that draws nothing
 still : {H : Model → Type 0} (z : Moved) → z.drawn ≡ false → Tells ⊥ H z
-still z e = record { when = (λ d. false_true (rw e at d), λ h. absurd h); then = λ d. absurd (false_true (rw e at d)) }
+still z e = grind (arith, nat_tests)
 
 -- ---- every event
 

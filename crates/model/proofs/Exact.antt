@@ -7,17 +7,18 @@ use mathlib.Core.List.{List, [], ◌∷◌}
 use mathlib.Core.Logic.{◌⊎◌, ◌↔◌, inl, inr, ⊎_elim}
 use native.Mathlib.Omega.{arith}
 use lib.Dec.{ltb, leb}
-use borrow.Author.Tests.{ltb-false, leb-false, le-ltb, lt-leb, not-true, not-false}
+use borrow.Author.Tests.{not-false}
 use Rattle.segment.specs.declared.Refusal.{Refusal}
 use Rattle.segment.specs.Refusals.{number, Said, refused, given, Row, ByRows}
-use Rattle.segment.proofs.Tests.{false_true, below, same, negated, both}
+use Rattle.std.proofs.Common.{rules}
+use Rattle.std.proofs.lemmas.Bool.Decides.{nat_tests, Decides-ltb}
 use Rattle.station.specs.Forms.{formed}
 use Rattle.station.specs.Outcomes.{Step}
 use Rattle.station.specs.Events.{event_said}
 use Rattle.station.specs.Theorems.{record_row, event_rows}
 use Rattle.station.specs.declared.Station.{Station}
 use Rattle.station.specs.declared.Event.{Event as Call}
-use Rattle.station.proofs.Exact.{then as through, record_agrees, refusals_exact as station_refusals_exact}
+use Rattle.station.proofs.Exact.{record_agrees, refusals_exact as station_refusals_exact}
 use Rattle.model.specs.Links.{full, has_place, at_place}
 use Rattle.model.specs.Step.{station_of, toward, mirrored, sound, Moved, moved, delivered, copied, lost, applied, step_said, model_after, reply_of}
 use Rattle.model.specs.Play.{Run, play_said, model_played, totals_of}
@@ -29,63 +30,25 @@ use Rattle.model.specs.declared.Event.{Event}
 use Rattle.model.specs.declared.Event.TheVariants.{Open, Listen, Abort, Resend, PowerCut, Deliver, Copy, Lose}
 use Rattle.model.proofs.Laws.{is_formed}
 
-given_refused : {A : Type 0} (x : A) (n : ℕ) → given x ≡ refused n → ⊥
-given_refused x n e = let z : ◌≡◌ {A = ℕ} 0 1 = cc in omega arith
-
 -- ---- a check in a chain is a row
 
 row_first : {A : Type 0} (b : Bool) (k n : ℕ) (C R : Type 0) (q : Said A) → (b ≡ true) ↔ C → (b ≡ false → (q ≡ refused n) ↔ R)
     → ((if b then refused k else q) ≡ refused n) ↔ (((k ≡ n) × C) ⊎ ((C → ⊥) × R))
-row_first true k n C R q c r = (λ e. inl (cc, c.0 refl), ⊎_elim (λ h. ap refused h.0) (λ h. absurd (h.0 (c.0 refl))))
-row_first false k n C R q c r =
-    (λ e. inr (λ h. false_true (c.1 h), (r refl).0 e), ⊎_elim (λ h. absurd (false_true (c.1 h.1))) (λ h. (r refl).1 h.1))
+row_first b k n C R q c r = grind (arith, nat_tests)
 
 -- values are given by no row
 row_none : {A : Type 0} (x : A) (n : ℕ) → (given x ≡ refused n) ↔ ByRows [] n
-row_none x n = (given_refused x n, λ h. absurd h)
+row_none x n = (λ e. cc, λ h. absurd h)
 
 -- a row whose cause does not hold
 row_off : (r : Row) (rows : List Row) (n : ℕ) → (r.cause → ⊥) → ByRows (r ∷ rows) n ↔ ByRows rows n
-row_off r rows n off = (⊎_elim (λ h. absurd (off h.1)) (λ h. h.1), λ h. inr (off, h))
+row_off r rows n off = search rules
 
 -- ---- row 1
 
-either_off : (a b : Bool) (A B : Type 0) → (not a ≡ true) ↔ A → (not b ≡ true) ↔ B → (not (a && b) ≡ true) ↔ (A ⊎ B)
-either_off true b A B p q = (λ e. inr (q.0 e), ⊎_elim (λ h. absurd (false_true (p.1 h))) q.1)
-either_off false b A B p q = (λ e. inl (p.0 refl), λ h. refl)
-
-regroup : {A B C : Type 0} → ((A ⊎ B) ⊎ C) ↔ (A ⊎ (B ⊎ C))
-regroup = (⊎_elim (⊎_elim inl (λ h. inr (inl h))) (λ h. inr (inr h)), ⊎_elim (λ h. inl (inl h)) (⊎_elim (λ h. inl (inr h)) inr))
-
-above : (a b : ℕ) → (not (leb a b) ≡ true) ↔ (b < a)
-above a b = (λ e. leb-false a b (not-true (leb a b) e), λ h. rw lt-leb)
-
-no_less : (a b : ℕ) → (not (ltb a b) ≡ true) ↔ (b ≤ a)
-no_less a b = (λ e. ltb-false a b (not-true (ltb a b) e), λ h. rw le-ltb)
-
-mirrored_as : (m : Model) → (mirrored m ≡ true) ↔ Mirrored m
-unfolding mirrored Mirrored
-mirrored_as m =
-    through
-    (both _ _ _ _
-    (both _ _ _ _ (both _ _ _ _ (same m.a.own m.b.peer) (same m.a.ownport m.b.peerport)) (same m.a.peer m.b.own))
-    (same m.a.peerport m.b.ownport))
-    (λ h. (h.0.0.0, h.0.0.1, h.0.1, h.1), λ h. (((h.0, h.1), h.2), h.3))
-
 model_agrees : (m : Model) → (not (sound m) ≡ true) ↔ (model_row m).cause
-unfolding sound
-model_agrees m =
-    let a = formed m.a in
-    let b = formed m.b in
-    let c = leb m.toa.count 32 in
-    let d = leb m.tob.count 32 in
-    through
-    (either_off (a && b && c && d) (mirrored m) _ _
-    (either_off (a && b && c) d _ _
-    (either_off (a && b) c _ _ (either_off a b _ _ (record_agrees m.a) (record_agrees m.b)) (above m.toa.count 32))
-    (above m.tob.count 32))
-    (negated _ _ (mirrored_as m)))
-    (through regroup (through regroup regroup))
+unfolding sound mirrored Mirrored
+model_agrees m = grind (arith, nat_tests, record_agrees m.a, record_agrees m.b)
 
 row_1 : {A : Type 0} (m : Model) (q : Said A) (n : ℕ) (R : Type 0) → (sound m ≡ true → (q ≡ refused n) ↔ R)
     → ((if not (sound m) then refused 1 else q) ≡ refused n) ↔ (((1 ≡ n) × (model_row m).cause) ⊎ (((model_row m).cause → ⊥) × R))
@@ -95,11 +58,10 @@ row_1 m q n R f = row_first (not (sound m)) 1 n (model_row m).cause R q (model_a
 
 moved_refused : (x : Side) (m : Model) (y : Said Step) (n : ℕ) → (moved x m y ≡ refused n) ↔ (y ≡ refused n)
 unfolding moved
-moved_refused x m (refused k) n = (λ e. let z : k ≡ n = cc in ap refused z, λ e. let z : k ≡ n = cc in ap refused z)
-moved_refused x m (given step) n = (λ e. absurd (given_refused _ n e), λ e. absurd (given_refused step n e))
+moved_refused x m y n = search rules
 
 form_holds : (s : Station) → formed s ≡ true → (record_row s).cause → ⊥
-form_holds s f h = false_true (rw f at ((record_agrees s).1 h))
+form_holds s f h = grind (arith, nat_tests, record_agrees s)
 
 behind_1 : (s : Station) (call : Call) (n : ℕ) → formed s ≡ true → ByRows (event_rows s call) n ↔ ByRows (behind (event_rows s call)) n
 unfolding event_rows
@@ -114,18 +76,20 @@ behind_1 s (Call.Arrive g fresh) n f = row_off (record_row s) (behind (event_row
 station_exact : (x : Side) (m rest : Model) (call : Call) (n : ℕ) → sound m ≡ true
     → (moved x rest (event_said (station_of x m) call) ≡ refused n) ↔ ByRows (behind (event_rows (station_of x m) call)) n
 station_exact x m rest call n s =
-    through (moved_refused x rest _ n)
-    (through (station_refusals_exact.event (station_of x m) call n) (behind_1 (station_of x m) call n (is_formed x m s)))
+    let a = moved_refused x rest (event_said (station_of x m) call) n in
+    let b = station_refusals_exact.event (station_of x m) call n in
+    let c = behind_1 (station_of x m) call n (is_formed x m s) in
+    (λ e. c.0 (b.0 (a.0 e)), λ e. a.1 (b.1 (c.1 e)))
 
 -- ---- the events
 
 no_place : (l : Link) (n : ℕ) → (not (has_place l n) ≡ true) ↔ (l.count ≤ n)
 unfolding has_place
-no_place l n = no_less n l.count
+no_place l n = grind (arith, nat_tests)
 
 is_full : (l : Link) → (full l ≡ true) ↔ (32 ≤ l.count)
 unfolding full
-is_full l = no_less l.count 32
+is_full l = grind (arith, nat_tests)
 
 event_exact : (m : Model) (e : Event) (n : ℕ) → (step_said m e ≡ refused n) ↔ ByRows (model_rows m e) n
 unfolding step_said applied delivered copied lost model_rows event_rows
@@ -145,18 +109,16 @@ event_exact m (Lose x k) n = row_1 m _ n _ (λ s. row_first _ 9 n _ _ _ (no_plac
 
 -- an answer that is a refusal was given for one
 after_refusal : (m : Model) (y : Said Moved) (why : Refusal) → refused (number why) ≡ reply_of y → model_after m y ≡ m
-after_refusal m (refused n) why e = refl
-after_refusal m (given x) why e = absurd (given_refused _ (number why) (sym e))
+after_refusal m y why e = search rules
 
 played_refusal : (m : Model) (y : Said Run) (why : Refusal) → refused (number why) ≡ totals_of y → model_played m y ≡ m
-played_refusal m (refused n) why e = refl
-played_refusal m (given p) why e = absurd (given_refused _ (number why) (sym e))
+played_refusal m y why e = search rules
 
 pub refusals_exact : RefusalsExact
 unfolding play_said
 refusals_exact = record {
   event = event_exact;
   unchanged = λ m e after why t. t.model ∙ after_refusal m (step_said m e) why t.answer;
-  whole = λ m n es k. row_1 m _ k _ (λ s. row_first _ 12 k _ _ _ (below 4096 n) (λ e. row_none _ k));
+  whole = λ m n es k. row_1 m _ k _ (λ s. row_first _ 12 k _ _ _ (Decides-ltb 4096 n) (λ e. row_none _ k));
   unplayed = λ m n es after why t. t.model ∙ played_refusal m (play_said m n es) why t.report;
 }

@@ -1,11 +1,13 @@
 -- Events and lists keep what 1 tests. Assumes nothing.
-use Prim.Native.Nat.{ℕ, ◌≤◌}
+use Prim.Native.Nat.{ℕ, ◌≤◌, ◌<◌}
 use mathlib.Core.Path.{◌≡◌, refl, subst}
 use mathlib.Core.Bool.{Bool, true, false, not}
 use mathlib.Core.List.{List, [], ◌∷◌}
 use native.Mathlib.Omega.{arith}
 use lib.Dec.{ltb}
-use borrow.Author.Tests.{le-leb, not-false}
+use borrow.Author.Tests.{not-false}
+use Rattle.std.proofs.Common.{rules}
+use Rattle.std.proofs.lemmas.Bool.Decides.{nat_tests}
 use Rattle.segment.specs.declared.Segment.{Segment}
 use Rattle.segment.specs.Refusals.{Said, refused, given}
 use Rattle.station.specs.Forms.{formed, with, closed_of, listen_of, syn_sent_of, received_of, established_of}
@@ -25,7 +27,7 @@ use Rattle.model.specs.declared.Link.{Link}
 use Rattle.model.specs.declared.Model.{Model}
 use Rattle.model.specs.declared.Event.{Event}
 use Rattle.model.specs.declared.Event.TheVariants.{Open, Listen, Abort, Resend, PowerCut, Deliver, Copy, Lose}
-use Rattle.model.proofs.Laws.{is_sound, sound_is, within, room, Gives, gives, refuses, same_station}
+use Rattle.model.proofs.Laws.{within, Gives, gives, refuses, same_station}
 
 abbrev Ok : Model → Type 0
 Ok m = sound m ≡ true
@@ -33,9 +35,8 @@ Ok m = sound m ≡ true
 -- ---- another link, another station
 
 link_ok : (x : Side) (m : Model) (l : Link) → Ok m → l.count ≤ 32 → Ok (with_toward x m l)
-unfolding with_toward mirrored
-link_ok A m l s h = let p = is_sound m s in sound_is _ (record { a = p.a; b = p.b; toa = le-leb _ _ h; tob = p.tob; mirror = p.mirror })
-link_ok B m l s h = let p = is_sound m s in sound_is _ (record { a = p.a; b = p.b; toa = p.toa; tob = le-leb _ _ h; mirror = p.mirror })
+unfolding with_toward mirrored sound
+link_ok x m l s h = search rules
 
 -- "endpoints and window stay"
 record Ends (s t : Station) : Type 0 where
@@ -44,35 +45,26 @@ record Ends (s t : Station) : Type 0 where
   peer : t.peer ≡ s.peer
   peerport : t.peerport ≡ s.peerport
 
-with_ends : (s : Station) (t : State) (passive : Bool) (iss una nxt irs rcvnxt : ℕ) → Ends s (with s t passive iss una nxt irs rcvnxt)
-unfolding with
-with_ends s t passive iss una nxt irs rcvnxt = record { own = refl; ownport = refl; peer = refl; peerport = refl }
-
 ends : (s : Station) → Everywhere (Ends s) s
-unfolding closed_of listen_of syn_sent_of received_of established_of
+unfolding closed_of listen_of syn_sent_of received_of established_of with
 ends s = record {
-  stays = record { own = refl; ownport = refl; peer = refl; peerport = refl };
-  closed = with_ends s _ _ _ _ _ _ _;
-  listening = with_ends s _ _ _ _ _ _ _;
-  syn_sent = λ iss. with_ends s _ _ _ _ _ _ _;
-  received = λ passive iss irs. with_ends s _ _ _ _ _ _ _;
-  established = λ passive iss irs. with_ends s _ _ _ _ _ _ _;
+  stays = search rules;
+  closed = search rules;
+  listening = search rules;
+  syn_sent = λ iss. search rules;
+  received = λ passive iss irs. search rules;
+  established = λ passive iss irs. search rules;
 }
 
 station_ok : (x : Side) (m : Model) (t : Station) → Ok m → formed t ≡ true → Ends (station_of x m) t → Ok (with_station x m t)
-unfolding station_of with_station mirrored
-station_ok A m t s f e =
-    let p = is_sound m s in
-    sound_is _ (record { a = f; b = p.b; toa = p.toa; tob = p.tob; mirror = rw (e.own, e.ownport, e.peer, e.peerport) p.mirror })
-station_ok B m t s f e =
-    let p = is_sound m s in
-    sound_is _ (record { a = p.a; b = f; toa = p.toa; tob = p.tob; mirror = rw (e.own, e.ownport, e.peer, e.peerport) p.mirror })
+unfolding station_of with_station mirrored sound
+station_ok x m t s f e = search rules
 
 -- ---- what is sent
 
 pushed_ok : (x : Side) (m : Model) (g : Segment) → Ok m → full (toward x m) ≡ false → Ok (with_toward x m (pushed (toward x m) g))
-unfolding pushed
-pushed_ok x m g s f = let h = room (toward x m) _ refl f in link_ok x m _ s (omega arith)
+unfolding pushed full
+pushed_ok x m g s f = let h : (toward x m).count < 32 = grind (arith, nat_tests) in link_ok x m _ s (omega arith)
 
 removed_ok : (x : Side) (m : Model) (n : ℕ) → Ok m → Ok (with_toward x m (removed (toward x m) n))
 unfolding removed
@@ -80,9 +72,7 @@ removed_ok x m n s = let h = within x m s in link_ok x m _ s (omega arith)
 
 posted_ok : (x : Side) (m : Model) (gs : List Segment) (drawn : Bool) → Ok m → Ok (posted x m gs drawn).model
 unfolding posted
-posted_ok x m [] drawn s = s
-posted_ok x m (g ∷ gs) drawn s =
-    by_case (λ (z : Moved). Ok z.model) (full (toward (peer_of x) m)) (λ e. s) (λ e. pushed_ok (peer_of x) m g s e)
+posted_ok x m gs drawn s = search (rules, pushed_ok)
 
 -- ---- each event
 
@@ -139,7 +129,7 @@ plays : (q : Run) → Ok q.model → Plays (given q)
 plays q s p e = let w : q ≡ p = cc in subst (λ (r : Run). Ok r.model) w s
 
 not_played : (n : ℕ) → Plays (refused n)
-not_played n p e = absurd (let w : ◌≡◌ {A = ℕ} 0 1 = cc in omega arith)
+not_played n p e = cc
 
 whole_ok : (m : Model) (n : ℕ) (es : List Event) → Plays (play_said m n es)
 unfolding play_said begun

@@ -5,7 +5,7 @@ use mathlib.Core.Bool.{Bool, true, false, ◌&&◌}
 use mathlib.Core.List.{List, [], ◌∷◌, map}
 use native.Mathlib.Omega.{arith}
 use lib.Dec.{eqb, ltb}
-use borrow.Author.Tests.{ltb-true}
+use Rattle.std.proofs.Common.{rules}
 use Rattle.segment.specs.declared.Segment.{Segment as SegmentSegment}
 use Rattle.segment.proofs.Places.{octet_again, control_again}
 use Rattle.station.specs.declared.State.{State}
@@ -14,7 +14,7 @@ use Rattle.station.specs.declared.Station.{Station}
 use Rattle.station.specs.Forms.{place}
 use Rattle.model.specs.declared.Link.{Link as ModelLink}
 use Rattle.model.specs.declared.Model.{Model as ModelModel}
-use Rattle.model.proofs.Laws.{and_both}
+use Rattle.std.proofs.lemmas.Bool.{and_parts}
 use Rattle.numbers.specs.Numbers.{bit_of, state_of, known, station_of, record_of, header_of, header_numbers, segment_of, segment_numbers}
 use Rattle.numbers.specs.Links.{link_of, link_numbers, both_known, model_of, model_numbers}
 use Rattle.numbers.specs.Theorems.{Controls, CrossesBack, Examples}
@@ -23,53 +23,13 @@ use Rattle.numbers.specs.declared.Segment.{Segment}
 use Rattle.numbers.specs.declared.Link.{Link}
 use Rattle.numbers.specs.declared.Model.{Model}
 
-state_again : (t : State) → state_of (place t) ≡ t
-unfolding state_of
-state_again Closed = refl
-state_again Listen = refl
-state_again SynSent = refl
-state_again SynReceived = refl
-state_again Established = refl
-
-mark_again : (b : Bool) → eqb (bit_of b) 1 ≡ b
-mark_again true = refl
-mark_again false = refl
-
-named : (t : State) (b : Bool) → (ltb (place t) 5 && ltb (bit_of b) 2) ≡ true
-named Closed true = refl
-named Closed false = refl
-named Listen true = refl
-named Listen false = refl
-named SynSent true = refl
-named SynSent false = refl
-named SynReceived true = refl
-named SynReceived false = refl
-named Established true = refl
-named Established false = refl
-
-place_again : (n : ℕ) → n < 5 → place (state_of n) ≡ n
-unfolding state_of
-place_again zero h = refl
-place_again (suc zero) h = refl
-place_again (suc (suc zero)) h = refl
-place_again (suc (suc (suc zero))) h = refl
-place_again (suc (suc (suc (suc zero)))) h = refl
-place_again (suc (suc (suc (suc (suc n))))) h = omega arith
-
-bit_again : (n : ℕ) → n < 2 → bit_of (eqb n 1) ≡ n
-bit_again zero h = refl
-bit_again (suc zero) h = refl
-bit_again (suc (suc n)) h = omega arith
-
 station_again : (s : Station) → (known (record_of s) ≡ true) × (station_of (record_of s) ≡ s)
-unfolding known station_of record_of
-station_again s = (named s.state s.passive, rw (state_again s.state, mark_again s.passive))
+unfolding known station_of record_of state_of
+station_again s = search rules
 
 numbers_again : (c : Record) → known c ≡ true → record_of (station_of c) ≡ c
-unfolding known station_of record_of
-numbers_again c e =
-    let k = and_both (ltb c.state 5) (ltb c.passive 2) e in
-    rw (place_again c.state (ltb-true c.state 5 k.0), bit_again c.passive (ltb-true c.passive 2 k.1))
+unfolding known station_of record_of state_of
+numbers_again c e = search rules
 
 segment_again : (g : SegmentSegment) → segment_of (segment_numbers g) ≡ g
 unfolding segment_of segment_numbers header_of header_numbers
@@ -109,7 +69,7 @@ model_again m =
 models_again : (c : Model) → both_known c ≡ true → Controls c.toa.slots → Controls c.tob.slots → model_numbers (model_of c) ≡ c
 unfolding both_known model_of model_numbers
 models_again c e o p =
-    let k = and_both (known c.a) (known c.b) e in
+    let k = and_parts (known c.a) (known c.b) e in
     rw (numbers_again c.a k.0, numbers_again c.b k.1, links_again c.toa o, links_again c.tob p)
 
 pub crosses_back : CrossesBack
@@ -128,15 +88,4 @@ crosses_back = record {
 
 pub examples : Examples
 unfolding state_of station_of known header_of segment_of link_of model_of
-examples = record {
-  closed = refl;
-  listen = refl;
-  syn_sent = refl;
-  syn_received = refl;
-  established = refl;
-  unknown = (refl, refl);
-  f0 = refl;
-  cc = refl;
-  aa = refl;
-  model = refl;
-}
+examples = search rules

@@ -1,14 +1,17 @@
 -- Every event is tests and a step, and so are octets that arrive. Assumes nothing.
-use mathlib.Core.Path.{◌≡◌, refl}
+use Prim.Native.Nat.{ℕ}
+use mathlib.Core.Path.{◌≡◌}
 use mathlib.Core.Bool.{true, not}
-use mathlib.Core.List.{List, [], ◌∷◌}
+use mathlib.Core.List.{List, [], ◌∷◌, ◌++◌}
 use borrow.Author.Tests.{not-false}
+use Rattle.std.proofs.Common.{rules}
 use Rattle.segment.specs.Refusals.{given, Test, refuse◌when◌, first_of}
+use Rattle.segment.specs.Read.{segment_at, field_tests}
 use Rattle.segment.proofs.Tests.{AllOff, all_off}
 use Rattle.station.specs.Forms.{is, formed, closed_of, listen_of}
 use Rattle.station.specs.Outcomes.{Step, quiet}
 use Rattle.station.specs.Calls.{bad_record, may_open, open_step, open_said, listen_said, abort_step, abort_said, may_resend, resend_step, resend_said, power_cut_said}
-use Rattle.station.specs.Arrival.{arrival_at, endpoint_tests, arrive_said}
+use Rattle.station.specs.Arrival.{arrival_at, endpoint_tests, arrive_said, octets_said}
 use Rattle.station.specs.Events.{event_said}
 use Rattle.station.specs.declared.State.TheVariants.{Closed}
 use Rattle.station.specs.declared.Station.{Station}
@@ -33,12 +36,7 @@ event_step s (Event.Arrive g fresh) = arrival_at s.state s g fresh
 
 pub event_first : (s : Station) (e : Event) → event_said s e ≡ first_of (bad_record s ∷ event_tests s e) (event_step s e)
 unfolding event_said open_said listen_said abort_said resend_said power_cut_said arrive_said
-event_first s (Event.Open n) = refl
-event_first s Event.Listen = refl
-event_first s Event.Abort = refl
-event_first s Event.Resend = refl
-event_first s Event.PowerCut = refl
-event_first s (Event.Arrive g fresh) = refl
+event_first s e = search rules
 
 -- what is given past the tests of a record
 pub past : (s : Station) (ts : List Test) (x step : Step) → first_of (bad_record s ∷ ts) x ≡ given step → (formed s ≡ true) × (x ≡ step)
@@ -49,3 +47,9 @@ past s ts x step e =
 
 pub event_past : (s : Station) (e : Event) (step : Step) → event_said s e ≡ given step → (formed s ≡ true) × (event_step s e ≡ step)
 event_past s e step g = past s (event_tests s e) (event_step s e) step (rw event_first at g)
+
+pub octets_past : (s : Station) (src dst : ℕ) (octets : List ℕ) (fresh : ℕ) (step : Step) → octets_said s src dst octets fresh ≡ given step
+    → (formed s ≡ true) × (event_step s (Event.Arrive (segment_at src dst octets) fresh) ≡ step)
+unfolding octets_said
+octets_past s src dst octets fresh step g =
+    past s (field_tests src dst octets ++ endpoint_tests s (segment_at src dst octets)) (arrival_at s.state s (segment_at src dst octets) fresh) step g
