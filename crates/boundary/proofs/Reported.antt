@@ -2,14 +2,15 @@
 use Prim.Native.Nat.{ℕ}
 use mathlib.Core.Path.{◌≡◌, refl, sym, ap, ◌∙◌}
 use mathlib.Core.Bool.{Bool, true, false, not}
-use borrow.Author.Tests.{not-false}
+use native.Mathlib.Omega.{arith}
+use Rattle.std.proofs.Common.{rules}
+use Rattle.std.proofs.lemmas.Bool.Decides.{nat_tests}
 use mathlib.Core.List.{List, [], ◌∷◌}
 use lib.ListN.{take}
 use lib.Dec.{ltb}
 use Rattle.std.specs.Prelude.{Result, Ok, Err}
 use Rattle.segment.specs.declared.Refusal.{Refusal}
 use Rattle.segment.specs.Refusals.{Said, refused, given, said, refuse◌when◌, first_of}
-use Rattle.segment.proofs.Tests.{AllOff, all_off}
 use Rattle.model.specs.declared.Model.{Model}
 use Rattle.model.specs.declared.Event.{Event}
 use Rattle.model.specs.declared.Totals.{Totals}
@@ -23,60 +24,31 @@ use Rattle.numbers.specs.declared.Model.{Model as Numbers}
 use Rattle.numbers.specs.Links.{both_known, model_of}
 use Rattle.boundary.specs.Player.{octets_played}
 
--- ---- a report and the model beside it are the run that is promised
+-- a report and the model beside it are the run that is promised
+reported : (m : Model) (x : Said Run) (after : Model) (r : Result Totals Refusal) → Reports m x after r → report_of after r ≡ x
+reported m x after r h = search rules
 
-abbrev beside : Model → Said Totals → Said Run
-beside m (refused n) = refused n
-beside m (given t) = given (record { model = m; totals = t })
-
-by_number : (m : Model) (r : Result Totals Refusal) → report_of m r ≡ beside m (said r)
-by_number m (Err r) = refl
-by_number m (Ok t) = refl
-
-joined : (m : Model) (x : Said Run) → beside (model_played m x) (totals_of x) ≡ x
-joined m (refused n) = refl
-joined m (given run) = refl
-
-pub reported : (m : Model) (x : Said Run) (after : Model) (r : Result Totals Refusal) → Reports m x after r → report_of after r ≡ x
-reported m x after r h = by_number after r ∙ rw (h.report, h.model) (joined m x)
-
--- ---- an answer and the model beside it are the event that is promised
-
-abbrev with_reply : Model → Said Reply → Said Moved
-with_reply m (refused n) = refused n
-with_reply m (given x) = given (record { model = m; sent = x.sent; drawn = x.drawn; turned = x.turned })
-
-by_reply : (m : Model) (a : Result Told Refusal) → answer_of m a ≡ with_reply m (said_answer a)
-by_reply m (Err r) = refl
-by_reply m (Ok t) = refl
-
-whole_again : (m : Model) (x : Said Moved) → with_reply (model_after m x) (reply_of x) ≡ x
-whole_again m (refused n) = refl
-whole_again m (given moved) = refl
-
+-- an answer and the model beside it are the event that is promised
 pub answered : (m : Model) (x : Said Moved) (after : Model) (r : Result Told Refusal) → Tells m x after r → answer_of after r ≡ x
-answered m x after r h = by_reply after r ∙ rw (h.answer, h.model) (whole_again m x)
+answered m x after r h = search rules
 
 -- ---- the player's array
 
 module _ (m : Model) (s : List ℕ) where
-  played_by : (b : Bool) → ltb 4096 (count_of s) ≡ b → play_said m (count_of s) (take (count_of s) (list_at s)) ≡ play_said m (count_of s) (events_at (count_of s) s)
+  played_there : play_said m (count_of s) (take (count_of s) (list_at s)) ≡ play_said m (count_of s) (events_at (count_of s) s)
   unfolding play_said
-  played_by true t = rw t
-  played_by false t = ap (play_said m (count_of s)) (listed_whole s t)
+  played_there = grind (arith, nat_tests, listed_whole s)
 
   -- a list past the limit is refused whatever the events, and one within it is there whole
-  pub played_whole : (n : ℕ) (es : List Event) (after : Model) (r : Result Totals Refusal) → es ≡ list_at s → n ≡ count_of s → Plays m n (take n es) after r
+  played_whole : (n : ℕ) (es : List Event) (after : Model) (r : Result Totals Refusal) → es ≡ list_at s → n ≡ count_of s → Plays m n (take n es) after r
       → report_of after r ≡ play_said m (count_of s) (events_at (count_of s) s)
   played_whole n es after r e k h =
-      reported m (play_said m (count_of s) (take (count_of s) (list_at s))) after r (rw (e, k) at h) ∙ played_by (ltb 4096 (count_of s)) refl
+      reported m (play_said m (count_of s) (take (count_of s) (list_at s))) after r (rw (e, k) at h) ∙ played_there
 
 -- a list in octets that is played from the model in numbers
 pub played_told : (m : Numbers) (s : List ℕ) (n : ℕ) (es : List Event) (before after : Model) (r : Result Totals Refusal) → is_list s ≡ true
     → given before ≡ first_of (refuse 1 when not (both_known m) ∷ []) (model_of m) → es ≡ list_at s → n ≡ count_of s → Plays before n (take n es) after r
     → report_of after r ≡ octets_played m s
-unfolding AllOff
 played_told m s n es before after r l k e c h =
-    let o = all_off (refuse 1 when not (both_known m) ∷ []) (model_of m) before (sym k) in
-    let known : both_known m ≡ true = not-false (both_known m) o.0.0 in
-    simp (l, known, o.1) (played_whole before s n es after r e c h)
+    let o : (both_known m ≡ true) × (model_of m ≡ before) = grind (arith, nat_tests) in
+    simp (l, o.0, o.1) (played_whole before s n es after r e c h)

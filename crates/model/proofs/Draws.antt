@@ -1,7 +1,7 @@
 -- A number is drawn where a station draws it, and is then its ISS. Assumes nothing.
 use mathlib.Core.Path.{◌≡◌, refl}
 use mathlib.Core.Bool.{Bool, true, false, not}
-use mathlib.Core.List.{List, [], ◌∷◌}
+use mathlib.Core.List.{List}
 use mathlib.Core.Logic.{◌↔◌}
 use Rattle.segment.specs.declared.Segment.{Segment}
 use Rattle.segment.specs.Refusals.{Said, refused, given}
@@ -16,10 +16,9 @@ use Rattle.station.specs.declared.Event.{Event as Call}
 use Rattle.station.proofs.Keeps.{by_case}
 use Rattle.station.proofs.Draws.{draws_exactly as call_draws_exactly}
 use Rattle.model.specs.Links.{full, has_place, at_place}
-use Rattle.model.specs.Step.{peer_of, station_of, toward, with_station, sound, Moved, posted, moved, delivered, copied, lost, applied, step_said}
+use Rattle.model.specs.Step.{station_of, toward, with_station, sound, Moved, posted, moved, delivered, copied, lost, applied, step_said}
 use Rattle.model.specs.Theorems.{Draws, Holds, DrawsExactly}
 use Rattle.model.specs.declared.Side.{Side}
-use Rattle.model.specs.declared.Side.TheVariants.{A, B}
 use Rattle.model.specs.declared.Model.{Model}
 use Rattle.model.specs.declared.Event.{Event}
 use Rattle.model.specs.declared.Event.TheVariants.{Open, Listen, Abort, Resend, PowerCut, Deliver, Copy, Lose}

@@ -13,16 +13,14 @@ use Rattle.segment.specs.Refusals.{Said, refused, given}
 use Rattle.station.specs.Forms.{formed, with, closed_of, listen_of, syn_sent_of, received_of, established_of}
 use Rattle.station.specs.Outcomes.{Step}
 use Rattle.station.specs.Events.{event_said}
-use Rattle.station.specs.declared.State.{State}
 use Rattle.station.specs.declared.Station.{Station}
 use Rattle.station.specs.declared.Event.{Event as Call}
 use Rattle.station.proofs.Keeps.{by_case, Everywhere, event_has, keeps_forms as station_keeps_forms}
 use Rattle.model.specs.Links.{full, has_place, at_place, pushed, removed}
-use Rattle.model.specs.Step.{peer_of, station_of, toward, with_station, with_toward, mirrored, sound, Moved, posted, moved, delivered, copied, lost, applied, step_said, model_after}
+use Rattle.model.specs.Step.{station_of, toward, with_station, with_toward, mirrored, sound, Moved, posted, moved, delivered, copied, lost, applied, step_said, model_after}
 use Rattle.model.specs.Play.{Run, counted, run, begun, play_said}
 use Rattle.model.specs.Theorems.{KeepsForms}
 use Rattle.model.specs.declared.Side.{Side}
-use Rattle.model.specs.declared.Side.TheVariants.{A, B}
 use Rattle.model.specs.declared.Link.{Link}
 use Rattle.model.specs.declared.Model.{Model}
 use Rattle.model.specs.declared.Event.{Event}

@@ -1,12 +1,11 @@
 -- Reading what was written, and writing what was read. Assumes nothing.
-use Prim.Native.Nat.{ℕ, ◌+◌, ◌*◌, ◌≤◌}
-use mathlib.Core.Path.{◌≡◌, refl, sym, ap, ◌∙◌}
+use Prim.Native.Nat.{ℕ, ◌*◌, ◌≤◌}
+use mathlib.Core.Path.{◌≡◌, sym, ap, ◌∙◌}
 use mathlib.Core.Bool.{false}
 use mathlib.Core.List.{List, ◌++◌}
 use mathlib.Core.Logic.{⊎_elim, inl}
 use native.Mathlib.Omega.{arith}
 use lib.ListN.{length, get_or, take, drop}
-use lib.Dec.{ltb}
 use Rattle.std.proofs.lemmas.Bool.Decides.{nat_tests}
 use Rattle.checksum.specs.Sum.{sum_of, checksum_of, at16, unchecked}
 use Rattle.checksum.proofs.Sums.{laws}
@@ -14,7 +13,7 @@ use Rattle.segment.specs.declared.Header.{Header}
 use Rattle.segment.specs.declared.Segment.{Segment}
 use Rattle.segment.specs.Refusals.{given}
 use Rattle.segment.specs.Octets.{octets_of, fields_at, header_words, reserved}
-use Rattle.segment.specs.Read.{fin_or_text, segment_at, field_tests, read_tests, fields_said, read_said}
+use Rattle.segment.specs.Read.{fin_or_text, field_tests, read_tests, fields_said, read_said}
 use Rattle.segment.specs.Write.{made, write_tests, write_said, write_leaves}
 use Rattle.segment.specs.Theorems.{Octets, ReadsBack, WritesBack}
 use Rattle.segment.proofs.Places.{fields_again, by_places, octets_again}

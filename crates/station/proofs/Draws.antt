@@ -1,24 +1,13 @@
 -- A number is drawn exactly by an open that is taken and by a LISTEN that takes a SYN. Assumes nothing.
-use Rattle.std.specs.Prelude.{if◌then◌else◌}
-use Prim.Native.Nat.{ℕ}
-use mathlib.Core.Path.{◌≡◌, refl, sym, ap, ◌∙◌}
-use mathlib.Core.Bool.{Bool, true, false, not, ◌||◌}
-use mathlib.Core.List.{◌++◌}
+use mathlib.Core.Path.{◌≡◌}
+use mathlib.Core.Bool.{true}
 use mathlib.Core.Logic.{◌↔◌}
-use native.Mathlib.Omega.{arith}
 use Rattle.std.proofs.Common.{rules}
-use lib.Dec.{eqb}
-use Rattle.seq.specs.Seq.{plus, order}
-use Rattle.segment.specs.declared.Segment.{Segment}
-use Rattle.segment.specs.Read.{segment_at, field_tests}
-use Rattle.station.specs.Forms.{is, with, syn_sent_of, received_of}
-use Rattle.station.specs.Sent.{has_ack, has_rst, has_syn, seg_seq, seg_ack, syn_ack_of, reply_reset}
-use Rattle.station.specs.Outcomes.{Step, quiet, sending, drawing}
+use Rattle.segment.specs.Read.{segment_at}
+use Rattle.station.specs.Forms.{with, syn_sent_of, received_of}
 use Rattle.station.specs.Calls.{open_step, abort_step, resend_step}
-use Rattle.station.specs.Arrival.{at_closed, at_listen, wrong_ack, syn_at_syn_sent, at_syn_sent, in_window, outside, ack_at_syn_received, is_later, ack_at_established, at_synchronized, arrival_at, endpoint_tests, octets_said}
+use Rattle.station.specs.Arrival.{at_closed, at_listen, syn_at_syn_sent, at_syn_sent, outside, ack_at_syn_received, ack_at_established, at_synchronized, arrival_at}
 use Rattle.station.specs.Theorems.{Draws, Offers, DrawsExactly}
-use Rattle.station.specs.declared.State.{State}
-use Rattle.station.specs.declared.State.TheVariants.{Closed, Listen, SynSent, SynReceived, Established}
 use Rattle.station.specs.declared.Station.{Station}
 use Rattle.station.specs.declared.Event.{Event}
 use Rattle.station.proofs.Uniform.{event_step, event_past, octets_past}

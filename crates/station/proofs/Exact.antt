@@ -1,13 +1,10 @@
 -- Refusals are given exactly when the table says. Assumes nothing.
 use Prim.Native.Nat.{ℕ}
-use mathlib.Core.Path.{◌≡◌, refl}
+use mathlib.Core.Path.{◌≡◌}
 use mathlib.Core.Bool.{true, not}
 use mathlib.Core.List.{List, ◌∷◌, ◌++◌}
 use mathlib.Core.Logic.{◌↔◌}
-use native.Mathlib.Omega.{arith}
 use Rattle.std.proofs.Common.{rules}
-use Rattle.std.proofs.lemmas.Bool.Decides.{nat_tests}
-use Rattle.segment.specs.declared.Segment.{Segment}
 use Rattle.segment.specs.Read.{segment_at, field_tests}
 use Rattle.segment.specs.Theorems.{field_rows}
 use Rattle.segment.proofs.Tests.{Agree, exact}
@@ -16,7 +13,6 @@ use Rattle.station.specs.Calls.{bad_record, may_open, may_resend}
 use Rattle.station.specs.Arrival.{arrival_at, ours, endpoint_tests, octets_said}
 use Rattle.station.specs.Theorems.{Zeroed, FormAt, record_row, endpoint_rows, event_rows, RefusalsExact}
 use Rattle.station.specs.declared.State.{State}
-use Rattle.station.specs.declared.State.TheVariants.{Closed, Listen, SynSent, SynReceived, Established}
 use Rattle.station.specs.declared.Station.{Station}
 use Rattle.station.specs.declared.Event.{Event}
 use Rattle.station.proofs.Uniform.{event_tests, event_step, event_first}

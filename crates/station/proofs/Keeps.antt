@@ -2,24 +2,17 @@
 use Rattle.std.specs.Prelude.{if◌then◌else◌}
 use Prim.Native.Nat.{ℕ}
 use mathlib.Core.Path.{◌≡◌, refl, subst}
-use mathlib.Core.Bool.{Bool, true, false, not, ◌&&◌, ◌||◌}
-use mathlib.Core.List.{◌++◌}
-use lib.Dec.{eqb, ltb}
-use Rattle.seq.specs.Seq.{plus, order}
-use Rattle.segment.specs.declared.Segment.{Segment}
+use mathlib.Core.Bool.{Bool, true, false}
 use Rattle.segment.specs.Refusals.{given}
-use Rattle.segment.specs.Read.{segment_at, field_tests}
+use Rattle.segment.specs.Read.{segment_at}
 use Rattle.std.proofs.Common.{rules}
-use Rattle.station.specs.Forms.{is, formed, form_at, zeroed, opening, acknowledged, synchronized, with, closed_of, listen_of, syn_sent_of, received_of, established_of}
-use Rattle.station.specs.Sent.{has_ack, has_rst, has_syn, seg_seq, seg_ack}
-use Rattle.station.specs.Outcomes.{Step, quiet}
+use Rattle.station.specs.Forms.{formed, form_at, zeroed, opening, acknowledged, synchronized, with, closed_of, listen_of, syn_sent_of, received_of, established_of}
+use Rattle.station.specs.Outcomes.{Step}
 use Rattle.station.specs.Calls.{open_step, abort_step, resend_step}
-use Rattle.station.specs.Arrival.{at_closed, at_listen, wrong_ack, syn_at_syn_sent, at_syn_sent, in_window, outside, reset_to, ack_at_syn_received, is_later, ack_at_established, at_synchronized, arrival_at, endpoint_tests, octets_said}
+use Rattle.station.specs.Arrival.{at_closed, at_listen, syn_at_syn_sent, at_syn_sent, outside, reset_to, ack_at_syn_received, ack_at_established, at_synchronized, arrival_at}
 use Rattle.station.specs.Events.{event_said}
 use Rattle.station.specs.Theorems.{KeepsForms}
 use Rattle.station.proofs.Uniform.{event_step, event_past, octets_past}
-use Rattle.station.specs.declared.State.{State}
-use Rattle.station.specs.declared.State.TheVariants.{Closed, Listen, SynSent, SynReceived, Established}
 use Rattle.station.specs.declared.Station.{Station}
 use Rattle.station.specs.declared.Event.{Event}
 
