@@ -79,7 +79,9 @@ impl Listener {
     }
 }
 
-// The datagrams of what is sent, at the start of the output; how many octets they have.
+// The datagrams of what is sent, at the start of the output; how many octets they have: a count, here and in
+// `answers`, since C asks `tabor_run` for one. `Replies` is a premise and no invariant of `Done`, which is public
+// and whose theorem speaks of each.
 #[tactic(auto, unfolding(crate::specs::Program::datagrams_of), using(crate::proofs::Sending::one_written, crate::proofs::Sending::one_sent, crate::proofs::Sending::datagram_size))]
 fn write_sent(sent: Option<Segment>, out: &mut [u8]) -> usize
     requires sent_in_bounds { length (datagrams_of (segments sent)) ≤ length out.old }
@@ -102,7 +104,6 @@ fn answers(input: &[u8], out: &mut [u8]) -> usize
 {
     let mut listener = Listener::new();
     let mut rest = input;
-    // A count, since it is what is given.
     let mut done = 0;
     while let Some(datagram) = Datagram::at_start(rest) {
         let sent = listener.heard_in_frame(datagram);

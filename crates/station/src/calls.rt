@@ -6,6 +6,7 @@ ghost use Rattle.station.specs.Calls.{may_open, open_step, abort_step, may_resen
 use crate::{Done, State, Station};
 
 impl Station {
+    // Two sentences of 01, this and `may_resend`, each with states of its own.
     #[tactic(auto, unfolding(crate::specs::Calls::may_open))]
     pub(crate) fn may_open(self) -> bool
         ensures { result ≡ may_open self }
