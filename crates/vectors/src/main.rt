@@ -219,12 +219,12 @@ fn text_and_fin(rt: &impl Print) -> io::Result<()> {
 
 fn sizes(rt: &impl Print) -> io::Result<()> {
     let whole = p11_octets();
-    let zeros = [0; 65516];
+    // Lent where they stand, so that they are the program's and not on the stack.
     for (label, s) in [
         ("19 octets", &whole[..19]),
         ("no octets", &[]),
-        ("65515 octets", &zeros[..65515]),
-        ("65516 octets", &zeros),
+        ("65515 octets", &[0; 65515]),
+        ("65516 octets", &[0; 65516]),
     ] {
         read(rt, label, ONE, TWO, s)?;
     }
