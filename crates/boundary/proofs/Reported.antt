@@ -40,15 +40,7 @@ module _ (m : Model) (s : List ℕ) where
   played_there = grind (arith, nat_tests, listed_whole s)
 
   -- a list past the limit is refused whatever the events, and one within it is there whole
-  played_whole : (n : ℕ) (es : List Event) (after : Model) (r : Result Totals Refusal) → es ≡ list_at s → n ≡ count_of s → Plays m n (take n es) after r
+  pub played_whole : (n : ℕ) (es : List Event) (after : Model) (r : Result Totals Refusal) → es ≡ list_at s → n ≡ count_of s → Plays m n (take n es) after r
       → report_of after r ≡ play_said m (count_of s) (events_at (count_of s) s)
   played_whole n es after r e k h =
       reported m (play_said m (count_of s) (take (count_of s) (list_at s))) after r (rw (e, k) at h) ∙ played_there
-
--- a list in octets that is played from the model in numbers
-pub played_told : (m : Numbers) (s : List ℕ) (n : ℕ) (es : List Event) (before after : Model) (r : Result Totals Refusal) → is_list s ≡ true
-    → given before ≡ first_of (refuse 1 when not (both_known m) ∷ []) (model_of m) → es ≡ list_at s → n ≡ count_of s → Plays before n (take n es) after r
-    → report_of after r ≡ octets_played m s
-played_told m s n es before after r l k e c h =
-    let o : (both_known m ≡ true) × (model_of m ≡ before) = grind (arith, nat_tests) in
-    simp (l, o.0, o.1) (played_whole before s n es after r e c h)

@@ -15,6 +15,9 @@ ghost use Rattle.station.specs.Events.{event_said};
 ghost use Rattle.station.specs.Arrival.{octets_said};
 ghost use Rattle.boundary.specs.Calls.{if_known, event_told, Arrives};
 ghost use Rattle.boundary.specs.Headers.{read_told, Written};
+ghost use Rattle.events.specs.Lists.{count_of, events_at};
+ghost use Rattle.model.specs.Play.{play_said};
+ghost use Rattle.telling.specs.Told.{played_of};
 ghost use Rattle.boundary.specs.Player.{step_told, play_told};
 ghost use Rattle.boundary.specs.Theorems.{OneOutcome};
 
@@ -87,13 +90,6 @@ pub extern "C" fn tabor_arrive(r: Record, g: Segment, fresh: u32) -> Told
     event(r, station::Event::Arrive(segment::Segment::from(g), fresh))
 }
 
-// Octets arrive at a station in numbers.
-fn arrived(r: Record, src: u32, dst: u32, octets: &[u8], fresh: u32) -> Result<Done, Refusal>
-    ensures { said result ≡ if_known r (octets_said (station_of r) src dst octets.now fresh) }
-{
-    Station::try_from(r)?.arrive_octets(src, dst, octets, fresh)
-}
-
 // Octets arrive; what is sent is written as octets, too. An output below 20 octets is 10, after 1 to 6
 // and whether or not anything is sent.
 #[tactic(auto, using(datagram::proofs::Sending::replies))]
@@ -108,7 +104,10 @@ pub extern "C" fn tabor_arrive_octets(
 ) -> Told
     ensures { Arrives r src dst octets.now fresh out.old out.new result }
 {
-    answering::answered(r, arrived(r, src, dst, octets, fresh), out)
+    match Station::try_from(r) {
+        Err(why) => telling::refused(r, why.number()),
+        Ok(station) => answering::answered(r, station.arrive_octets(src, dst, octets, fresh), out),
+    }
 }
 
 // ---- headers
@@ -156,6 +155,16 @@ pub extern "C" fn tabor_step(m: Model, octets: &[u8]) -> Stepped
     }
 }
 
+// The events in octets, played from a model. A function of its own: what is refused before it pays nothing for the list.
+#[tactic(auto, using(crate::proofs::Reported::played_whole))]
+fn played_from(m: Model, mut after: model::Model, octets: &[u8]) -> Played
+    ensures { result ≡ played_of m (play_said after (count_of octets.now) (events_at (count_of octets.now) octets.now)) }
+{
+    let list = events::list(octets);
+    let report = after.play(&list, events::count(octets));
+    telling::played_of(m, after, report)
+}
+
 // The events in octets, played. Octets that are no list of events are 255.
 #[unsafe(no_mangle)]
 pub extern "C" fn tabor_play(m: Model, octets: &[u8]) -> Played
@@ -164,13 +173,9 @@ pub extern "C" fn tabor_play(m: Model, octets: &[u8]) -> Played
     if !events::is_list(octets) {
         return telling::not_played(m, NO_LIST);
     }
-    let list = events::list(octets);
     match model::Model::try_from(m) {
         Err(why) => telling::not_played(m, why.number()),
-        Ok(mut after) => {
-            let report = after.play(&list, events::count(octets));
-            telling::played_of(m, after, report)
-        }
+        Ok(model) => played_from(m, model, octets),
     }
 }
 
