@@ -81,7 +81,7 @@ impl Model {
     pub fn step(&mut self, e: Event) -> Result<Told, Refusal>
         ensures { Steps self.old e self.new result }
     {
-        let next = Sound::of(*self)?.applied(e)?;
+        let next = Sound::of(self)?.applied(e)?;
         *self = next.model;
         Ok(next.told)
     }
@@ -93,7 +93,7 @@ impl Model {
     pub fn play(&mut self, events: &[Event; 4096], n: usize) -> Result<Totals, Refusal>
         ensures { Plays self.old n (take n events.now) self.new result }
     {
-        Sound::of(*self)?;
+        Sound::of(self)?;
         if 4096 < n {
             return Err(Refusal::Events);
         }

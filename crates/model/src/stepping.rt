@@ -43,22 +43,22 @@ impl Model {
     }
 
     #[tactic(auto, unfolding(crate::specs::Step::with_station))]
-    fn with_station(self, x: Side, s: Station) -> Model
-        ensures { result ≡ with_station x self s }
+    fn set_station(&mut self, x: Side, s: Station)
+        ensures { self.new ≡ with_station x self.old s }
     {
         match x {
-            Side::A => Model { a: s, ..self },
-            Side::B => Model { b: s, ..self },
+            Side::A => self.a = s,
+            Side::B => self.b = s,
         }
     }
 
     #[tactic(auto, unfolding(crate::specs::Step::with_toward))]
-    fn with_toward(self, x: Side, l: Link) -> Model
-        ensures { result ≡ with_toward x self l }
+    fn set_toward(&mut self, x: Side, l: Link)
+        ensures { self.new ≡ with_toward x self.old l }
     {
         match x {
-            Side::A => Model { toa: l, ..self },
-            Side::B => Model { tob: l, ..self },
+            Side::A => self.toa = l,
+            Side::B => self.tob = l,
         }
     }
 
@@ -83,19 +83,21 @@ impl Model {
             & self.mirrored()
     }
 
-    fn relinked(self, x: Side, l: Link) -> Next
-        ensures { moved_of result ≡ relinked x self l }
+    fn relinked(&self, x: Side, l: Link) -> Next
+        ensures { moved_of result ≡ relinked x self.now l }
     {
+        let mut model = *self;
+        model.set_toward(x, l);
         Next {
-            model: self.with_toward(x, l),
+            model,
             told: Told::default(),
         }
     }
 
     // What station x sends goes onto the link towards its peer.
     #[tactic(auto, unfolding(crate::specs::Step::posted, crate::specs::Links::full))]
-    fn posted(self, x: Side, sent: Option<Segment>, drawn: bool) -> Next
-        ensures { moved_of result ≡ posted x self (segments sent) drawn }
+    fn post(&mut self, x: Side, sent: Option<Segment>, drawn: bool) -> Told
+        ensures { moved_of (record { model = self.new; told = result }) ≡ posted x self.old (segments sent) drawn }
     {
         let told = Told {
             sent,
@@ -103,48 +105,42 @@ impl Model {
             turned: false,
         };
         let Some(g) = sent else {
-            return Next { model: self, told };
+            return told;
         };
         let l = self.toward(x.peer());
         if l.is_full() {
-            return Next {
-                model: self,
-                told: Told {
-                    turned: true,
-                    ..told
-                },
+            return Told {
+                turned: true,
+                ..told
             };
         }
-        Next {
-            model: self.with_toward(x.peer(), l.pushed(g)),
-            told,
-        }
+        self.set_toward(x.peer(), l.pushed(g));
+        told
     }
 
     // One event of station x: the step goes on from rest.
     #[tactic(auto, unfolding(crate::specs::Step::moved))]
-    fn moved(&self, x: Side, rest: Model, e: station::Event) -> Result<Next, Refusal>
+    fn moved(&self, x: Side, mut rest: Model, e: station::Event) -> Result<Next, Refusal>
         ensures { said_as moved_of result ≡ moved x rest (event_said (station_of x self.now) e) }
     {
         let done = self.station(x).step(e)?;
-        Ok(
-            rest.with_station(x, done.next)
-                .posted(x, done.sent, done.drawn),
-        )
+        rest.set_station(x, done.next);
+        let told = rest.post(x, done.sent, done.drawn);
+        Ok(Next { model: rest, told })
     }
 }
 
 // A model that 1 does not refuse.
 #[derive(Clone, Copy)]
-pub(crate) struct Sound {
-    model: Model,
-    ghost is_sound: { sound model ≡ true },
+pub(crate) struct Sound<'a> {
+    model: &'a Model,
+    ghost is_sound: { sound model.now ≡ true },
 }
 
-impl Sound {
+impl<'a> Sound<'a> {
     // Refusal 1.
-    pub(crate) fn of(model: Model) -> Result<Sound, Refusal>
-        ensures { said_as (λ (s : Sound). s.model) result ≡ first_of (refuse 1 when not (sound model) ∷ []) model }
+    pub(crate) fn of(model: &'a Model) -> Result<Sound<'a>, Refusal>
+        ensures { said_as (λ (s : Sound). s.model.now) result ≡ first_of (refuse 1 when not (sound model.now) ∷ []) model.now }
     {
         if !model.is_sound() {
             return Err(Refusal::Form);
@@ -154,17 +150,18 @@ impl Sound {
 
     #[tactic(auto, using(crate::proofs::Laws::within), unfolding(crate::specs::Step::delivered, crate::specs::Links::has_place, crate::specs::Links::full))]
     fn delivered(&self, x: Side, n: usize, fresh: u32) -> Result<Next, Refusal>
-        ensures { said_as moved_of result ≡ delivered x self.now.model n fresh }
+        ensures { said_as moved_of result ≡ delivered x self.now.model.now n fresh }
     {
         let l = self.model.toward(x);
         let g = l.place(n).ok_or(Refusal::Place)?;
-        let rest = self.model.with_toward(x, l.removed(n));
+        let mut rest = *self.model;
+        rest.set_toward(x, l.removed(n));
         self.model.moved(x, rest, station::Event::Arrive(g, fresh))
     }
 
     #[tactic(auto, using(crate::proofs::Laws::within), unfolding(crate::specs::Step::copied, crate::specs::Links::has_place, crate::specs::Links::full))]
     fn copied(&self, x: Side, n: usize) -> Result<Next, Refusal>
-        ensures { said_as moved_of result ≡ copied x self.now.model n }
+        ensures { said_as moved_of result ≡ copied x self.now.model.now n }
     {
         let l = self.model.toward(x);
         let g = l.place(n).ok_or(Refusal::Place)?;
@@ -176,7 +173,7 @@ impl Sound {
 
     #[tactic(auto, using(crate::proofs::Laws::within), unfolding(crate::specs::Step::lost, crate::specs::Links::has_place, crate::specs::Links::full))]
     fn lost(&self, x: Side, n: usize) -> Result<Next, Refusal>
-        ensures { said_as moved_of result ≡ lost x self.now.model n }
+        ensures { said_as moved_of result ≡ lost x self.now.model.now n }
     {
         let l = self.model.toward(x);
         l.place(n).ok_or(Refusal::Place)?;
@@ -185,14 +182,14 @@ impl Sound {
 
     // One event of station x.
     fn called(&self, x: Side, e: station::Event) -> Result<Next, Refusal>
-        ensures { said_as moved_of result ≡ moved x self.now.model (event_said (station_of x self.now.model) e) }
+        ensures { said_as moved_of result ≡ moved x self.now.model.now (event_said (station_of x self.now.model.now) e) }
     {
-        self.model.moved(x, self.model, e)
+        self.model.moved(x, *self.model, e)
     }
 
     #[tactic(auto, unfolding(crate::specs::Step::applied))]
     pub(crate) fn applied(&self, e: Event) -> Result<Next, Refusal>
-        ensures { said_as moved_of result ≡ applied self.now.model e }
+        ensures { said_as moved_of result ≡ applied self.now.model.now e }
     {
         match e {
             Event::Open(x, n) => self.called(x, station::Event::Open(n)),
