@@ -1,2 +1,2 @@
-pub mod Mapped
+pub mod Filled
 pub mod Crossing

@@ -220,13 +220,19 @@ impl From<segment::Segment> for Segment {
 
 // ---- two stations and their links
 
+// A link's slots by place, in a loop: `map` copies them through an array of 32 `Option`s, and after `iter_mut` a proof
+// knows nothing of the elements.
 impl From<Link> for model::Link {
     ghost from_gives = { λ l k. k ≡ link_of l };
 
-    #[tactic(auto, unfolding(crate::specs::Links::link_of))]
+    #[tactic(auto, unfolding(crate::specs::Links::link_of), using(crate::proofs::Filled::filling))]
     fn from(l: Link) -> model::Link {
+        let mut slots = [segment::Segment::default(); 32];
+        for (i, g) in l.slots.iter().enumerate() {
+            slots[i] = segment::Segment::from(*g);
+        }
         model::Link {
-            slots: l.slots.map(segment::Segment::from),
+            slots,
             count: l.count,
         }
     }
@@ -235,10 +241,14 @@ impl From<Link> for model::Link {
 impl From<model::Link> for Link {
     ghost from_gives = { λ l k. k ≡ link_numbers l };
 
-    #[tactic(auto, unfolding(crate::specs::Links::link_numbers))]
+    #[tactic(auto, unfolding(crate::specs::Links::link_numbers), using(crate::proofs::Filled::filling))]
     fn from(l: model::Link) -> Link {
+        let mut slots = [Segment::default(); 32];
+        for (i, g) in l.slots.iter().enumerate() {
+            slots[i] = Segment::from(*g);
+        }
         Link {
-            slots: l.slots.map(Segment::from),
+            slots,
             count: l.count,
         }
     }
