@@ -1,28 +1,23 @@
 -- What is told of an event and of a list in octets. Assumes nothing.
 use Prim.Native.Nat.{ℕ}
-use mathlib.Core.Path.{◌≡◌, refl, sym, ap, ◌∙◌}
-use mathlib.Core.Bool.{Bool, true, false, not}
+use mathlib.Core.Path.{◌≡◌, ◌∙◌}
 use native.Mathlib.Omega.{arith}
 use Rattle.std.proofs.Common.{rules}
 use Rattle.std.proofs.lemmas.Bool.Decides.{nat_tests}
-use mathlib.Core.List.{List, [], ◌∷◌}
+use mathlib.Core.List.{List}
 use lib.ListN.{take}
-use lib.Dec.{ltb}
-use Rattle.std.specs.Prelude.{Result, Ok, Err}
+use Rattle.std.specs.Prelude.{Result}
 use Rattle.segment.specs.declared.Refusal.{Refusal}
-use Rattle.segment.specs.Refusals.{Said, refused, given, said, refuse◌when◌, first_of}
+use Rattle.segment.specs.Refusals.{Said}
 use Rattle.model.specs.declared.Model.{Model}
 use Rattle.model.specs.declared.Event.{Event}
 use Rattle.model.specs.declared.Totals.{Totals}
 use Rattle.model.specs.declared.Told.{Told}
-use Rattle.model.specs.Step.{Moved, Reply, said_answer, reply_of, model_after, Tells}
-use Rattle.model.specs.Play.{Run, play_said, model_played, totals_of, Reports, Plays}
-use Rattle.events.specs.Lists.{is_list, count_of, events_at, list_at}
+use Rattle.model.specs.Step.{Moved, Tells}
+use Rattle.model.specs.Play.{Run, play_said, Reports, Plays}
+use Rattle.events.specs.Lists.{count_of, events_at, list_at}
 use Rattle.events.proofs.Listed.{listed_whole}
 use Rattle.telling.specs.Told.{report_of, answer_of}
-use Rattle.numbers.specs.declared.Model.{Model as Numbers}
-use Rattle.numbers.specs.Links.{both_known, model_of}
-use Rattle.boundary.specs.Player.{octets_played}
 
 -- a report and the model beside it are the run that is promised
 reported : (m : Model) (x : Said Run) (after : Model) (r : Result Totals Refusal) → Reports m x after r → report_of after r ≡ x
